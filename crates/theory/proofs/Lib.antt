@@ -1,0 +1,27 @@
+-- The laws of the definitions in specs/, lowest first. A crate above cites a file as Rattle.theory.proofs.NAME.
+-- numbers, places and the wide format
+pub mod Tests
+pub mod Powers
+pub mod Multiples
+pub mod Place
+pub mod Wide
+pub mod Canonical
+pub mod Neighbours
+pub mod Units
+-- the rounding of a magnitude
+pub mod Round
+pub mod Monotone
+pub mod Division
+-- values with a sign
+pub mod Integers
+pub mod Signed
+pub mod Faithful
+-- the three-step sum
+pub mod Error
+pub mod Steps
+pub mod FastTwoSum
+-- Rump's routes
+pub mod Operations
+pub mod FirstPlace
+pub mod LastPlace
+pub mod Examples

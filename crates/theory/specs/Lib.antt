@@ -1,0 +1,11 @@
+-- A number format without its exponents' limits: base β, p digits, values in units of β ^ Emin. Definitions only; their laws are in proofs/.
+pub mod Tests
+pub mod Place
+pub mod Wide
+pub mod Neighbours
+pub mod Units
+pub mod Round
+pub mod Signed
+pub mod Faithful
+pub mod FastTwoSum
+pub mod Rump
