@@ -1,0 +1,21 @@
+-- `format::admission::check_format` meets its contract.
+use borrow.Author.Needs.{needs}
+use mathlib.Core.Path.{sym, _∙_}
+use Rattle.theory.proofs.Tests.{unless-passed, unless-failed}
+use Rattle.format.specs.Formats.{formatChecked}
+use Rattle.format.proofs.admission.check_format.Statement.{statement}
+use Rattle.format.proofs.admission.check_format.Tie as tie
+
+is-admitted-requires : tie.Need-is-admitted-requires
+is-admitted-requires c κs = search needs
+
+returns : tie.Need-returns
+unfolding formatChecked
+returns c = sym (unless-passed _ _ (sym (c .before .is-admitted .ensures) ∙ c .if1 .taken))
+
+returns-2 : tie.Need-returns-2
+unfolding formatChecked
+returns-2 c = sym (unless-failed _ _ (sym (c .before .is-admitted .ensures) ∙ c .if1 .left))
+
+pub check-format-spec : {M : Type 1} → statement M
+check-format-spec = tie.close (tie.spec is-admitted-requires returns returns-2)

@@ -1,0 +1,59 @@
+-- The admitted formats, and what is prepared from one.
+use Prim.Native.Nat.{ℕ, _^_, _-_, _≤_}
+use mathlib.Core.Path.{_≡_}
+use mathlib.Core.Bool.{Bool}
+use lib.Dec.{leb}
+use lib.IntN.{ℤ, pos, negsuc, natAbs, _-ℤ_}
+use lib.Signed.{leZ}
+use Rattle.theory.specs.Tests.{_and_, unless}
+use Rattle.format.specs.declared.Format.{Format}
+use Rattle.format.specs.declared.Scale.{Scale}
+use Rattle.format.specs.declared.Prepared.{Prepared}
+use Rattle.format.specs.declared.Preparation.{Preparation}
+use Rattle.format.specs.declared.Preparation.the-variants as prepared
+use Rattle.format.specs.declared.Verdict.{Verdict}
+use Rattle.format.specs.declared.Verdict.the-variants as verdict
+use Rattle.format.specs.declared.Refusal.the-variants.{FormatNotAdmitted}
+
+-- what no power of an admitted format exceeds
+abbrev pub greatestPower : ℕ
+greatestPower = 2 ^ 31
+
+-- -1200 ≤ Emin ≤ Emax ≤ 1200
+unfoldable pub exponentsAdmitted : (emin emax : ℤ) → Bool
+exponentsAdmitted emin emax = leZ (negsuc 1199) emin and leZ emin emax and leZ emax (pos 1200)
+
+-- 2 ≤ β ≤ 256, 1 ≤ p ≤ 31, β ^ p ≤ 2 ^ 31, and the exponents
+unfoldable pub admitted : Format → Bool
+admitted f =
+    leb 2 (f .base) and leb (f .base) 256
+    and leb 1 (f .digits) and leb (f .digits) 31
+    and leb (f .base ^ f .digits) greatestPower
+    and exponentsAdmitted (f .emin) (f .emax)
+
+-- the answer of check_format
+unfoldable pub formatChecked : Format → Verdict
+formatChecked f = unless (admitted f) (verdict.Refused FormatNotAdmitted) verdict.Passed
+
+-- ---- what the calls work out of a format before all else
+abbrev pub scaleOf : Format → Scale
+scaleOf f = record { base = f .base; digits = f .digits; full = f .base ^ (f .digits - 1); top = f .base ^ f .digits }
+
+-- the highest place: Emax - Emin
+abbrev pub highestPlace : Format → ℕ
+highestPlace f = natAbs (f .emax -ℤ f .emin)
+
+abbrev pub preparedOf : Format → Prepared
+preparedOf f = record { format = f; scale = scaleOf f; highest = highestPlace f }
+
+unfoldable pub preparation : Format → Preparation
+preparation f = unless (admitted f) (prepared.Refused FormatNotAdmitted) (prepared.Ready (preparedOf f))
+
+-- a scale that an admitted format can have
+pub record Scaled (s : Scale) : Type 0 where
+  pub base-least : 2 ≤ s .base
+  pub base-most : s .base ≤ 256
+  pub digits-least : 1 ≤ s .digits
+  pub full-power : s .full ≡ s .base ^ (s .digits - 1)
+  pub top-power : s .top ≡ s .base ^ s .digits
+  pub top-most : s .top ≤ greatestPower

@@ -1,0 +1,5 @@
+-- Formats, directions and refusals, as document 01 has them.
+pub mod Refusals
+pub mod Directions
+pub mod Formats
+pub mod Published

@@ -1,0 +1,18 @@
+-- Document 01's refusals and their numbers.
+use Prim.Native.Nat.{ℕ}
+use Rattle.format.specs.declared.Refusal.{Refusal}
+use Rattle.format.specs.declared.Refusal.the-variants.{FormatNotAdmitted, NoSuchDirection, NumberNotInFormat, DivisorZero, TooLarge, NotBinary, SmallerFirst, PremiseFails, NotFinite, NoSuchFormat, LengthsDiffer}
+
+-- what is returned: the number in the table of refusals
+abbrev pub refusalNumber : Refusal → ℕ
+refusalNumber FormatNotAdmitted = 1
+refusalNumber NoSuchDirection = 2
+refusalNumber NumberNotInFormat = 3
+refusalNumber DivisorZero = 4
+refusalNumber TooLarge = 5
+refusalNumber NotBinary = 6
+refusalNumber SmallerFirst = 7
+refusalNumber PremiseFails = 8
+refusalNumber NotFinite = 9
+refusalNumber NoSuchFormat = 10
+refusalNumber LengthsDiffer = 11

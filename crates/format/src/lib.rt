@@ -1,0 +1,73 @@
+// Number formats: which are admitted, what is prepared from one, the published ones, and the numbered directions and refusals.
+pub mod admission;
+pub mod directions;
+pub mod published;
+pub mod refusals;
+
+// The type of significands and of the powers that bound them.
+pub type Significand = u32;
+
+// Base, digits, lowest and highest exponent of the whole-number significand.
+pub struct Format {
+    pub base: u32,
+    pub digits: u32,
+    pub emin: i32,
+    pub emax: i32,
+}
+
+// Why a call is refused, in the order of document 01's numbers 1 to 11.
+pub enum Refusal {
+    FormatNotAdmitted,
+    NoSuchDirection,
+    NumberNotInFormat,
+    DivisorZero,
+    TooLarge,
+    NotBinary,
+    SmallerFirst,
+    PremiseFails,
+    NotFinite,
+    NoSuchFormat,
+    LengthsDiffer,
+}
+
+// The five directions, in the order of their numbers 0 to 4.
+pub enum Direction {
+    NearestEven,
+    NearestAway,
+    TowardZero,
+    Upward,
+    Downward,
+}
+
+// A base and a number of digits, with the powers that every operation needs: full = base ^ (digits - 1), top = base ^ digits.
+pub struct Scale {
+    pub base: u32,
+    pub digits: u32,
+    pub full: Significand,
+    pub top: Significand,
+}
+
+// An admitted format with its scale and its highest place, emax - emin.
+pub struct Prepared {
+    pub format: Format,
+    pub scale: Scale,
+    pub highest: u32,
+}
+
+// An examined format: prepared, or refused.
+pub enum Preparation {
+    Ready(Prepared),
+    Refused(Refusal),
+}
+
+// A format that was asked for by its number.
+pub enum FormatAnswer {
+    Found(Format),
+    Refused(Refusal),
+}
+
+// An examination that has no other result.
+pub enum Verdict {
+    Passed,
+    Refused(Refusal),
+}
