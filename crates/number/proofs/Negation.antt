@@ -1,0 +1,38 @@
+-- Negation turns the sign of the value, negating twice gives the number back, and the magnitude has the value without its sign.
+use mathlib.Core.Path.{_≡_, refl, sym, ap, _∙_}
+use mathlib.Core.Bool.{Bool, true, false, not}
+use mathlib.Core.List.{[], _∷_}
+use Prim.Native.Nat.{zero, suc}
+use lib.IntN.{ℤ, pos, negsuc, negℤ}
+use Rattle.theory.specs.Signed.{signed}
+use Rattle.theory.proofs.Integers.{negate-signed}
+use Rattle.format.specs.declared.Format.{Format}
+use Rattle.format.proofs.Formats.{Admitted}
+use Rattle.number.specs.declared.Number.{Number}
+use Rattle.number.specs.Numbers.{magnitude, value, number}
+use Rattle.number.proofs.Membership.{Member}
+use Rattle.number.proofs.Values.{member-wide, member-greatest, number-magnitude, number-value, number-member, number-of, member-unique}
+
+negated-back : (v : ℤ) → negℤ (negℤ v) ≡ v
+negated-back (pos zero) = refl
+negated-back (pos (suc n)) = refl
+negated-back (negsuc n) = refl
+
+module _ {f : Format} {x : Number} (a : Admitted f) (i : Member f x) where
+  -- x with any sign is in the format
+  pub signed-member : (negative : Bool) → Member f (number f negative (magnitude f x))
+  signed-member negative = number-member a (member-wide a i) negative (member-greatest a i)
+
+  pub negated-value : value f (number f (not (x .negative)) (magnitude f x)) ≡ negℤ (value f x)
+  unfolding value
+  negated-value = number-value a (member-wide a i) (not (x .negative)) ∙ sym (negate-signed (x .negative) (magnitude f x))
+
+  pub unsigned-value : value f (number f false (magnitude f x)) ≡ pos (magnitude f x)
+  unsigned-value = number-value a (member-wide a i) false
+
+-- negating twice gives the number back
+pub negated-twice : {f : Format} {x : Number} → Admitted f → Member f x
+    → let y : Number = number f (not (x .negative)) (magnitude f x) in number f (not (y .negative)) (magnitude f y) ≡ x
+negated-twice {f} {x} a i =
+    let j = signed-member a i (not (x .negative)) in
+    member-unique a (signed-member a j _) i (negated-value a j ∙ ap negℤ (negated-value a i) ∙ negated-back (value f x))

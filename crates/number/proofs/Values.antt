@@ -1,0 +1,213 @@
+-- Numbers and their exact values: a number of the format is the canonical number of its value, and the canonical number of a
+-- magnitude of the wide format up to the greatest is in the format and has that value.
+use Prim.Native.Nat.{ℕ, zero, suc, _+_, _*_, _-_, _/_, _^_, _≤_, _<_}
+use mathlib.Core.Path.{_≡_, refl, sym, ap, ap₂, subst, _∙_}
+use mathlib.Core.Bool.{Bool, true, false, not, _&&_}
+use mathlib.Core.Logic.{_⊎_, inl, inr, ⊎-elim}
+use native.Mathlib.Omega.{arith}
+use native.Mathlib.Nat.{le-refl, mul-div-cancel, mul-le-mul, mul-le-mul-left, mul-lt-mul-of-pos-left, mul-lt-mul-of-pos-right, mul-pos, zero-mul, pow-zero}
+use lib.Dec.{eqb, leb}
+use lib.IntN.{ℤ, pos, negsuc, natAbs, _+ℤ_, _-ℤ_}
+use borrow.Author.Tests.{leb-true, leb-false, le-leb, ne-eqb, eq-eqb}
+use Rattle.theory.specs.Place.{Positional, place, step}
+use Rattle.theory.specs.Wide.{Wide, Canonical}
+use Rattle.theory.specs.Signed.{signed}
+use Rattle.theory.proofs.Integers.{above, below, sum-parts, diff-parts, size-parts, parts-eq, size-signed}
+use Rattle.theory.proofs.Powers.{pow-add, pow-pos, pow-pred, pow-mono, pow-half}
+use Rattle.theory.proofs.Place.{place-le}
+use Rattle.theory.proofs.Wide.{wide-pow}
+use Rattle.theory.proofs.Canonical.{canonical-place, canonical-wide, canonical-unique, canonical-of, canonical-value}
+use Rattle.format.specs.declared.Format.{Format}
+use Rattle.format.specs.Formats.{highestPlace}
+use Rattle.format.proofs.Signed.{Upto, apart}
+use Rattle.format.proofs.Formats.{Admitted, positional, top-full, Exponents, distances}
+use Rattle.number.specs.declared.Number.{Number}
+use Rattle.number.specs.Numbers.{placeOf, magnitude, value, greatest, number}
+use Rattle.number.specs.Signs.{withSign}
+use Rattle.number.proofs.Membership.{Member, full-positive}
+
+-- ---- exponents and places
+-- emin + (e - emin) is e
+pub place-back : (emin e : ℤ) → Upto emin e → emin +ℤ pos (natAbs (e -ℤ emin)) ≡ e
+place-back emin e h =
+    let d = diff-parts e emin in
+    let n = size-parts (e -ℤ emin) in
+    let s = sum-parts emin (pos (natAbs (e -ℤ emin))) in
+    parts-eq (emin +ℤ pos (natAbs (e -ℤ emin))) e (omega (arith, apart (e -ℤ emin)))
+
+-- (emin + k) - emin is k
+pub place-there : (emin : ℤ) (k : ℕ) → natAbs ((emin +ℤ pos k) -ℤ emin) ≡ k
+place-there emin k =
+    let z = (emin +ℤ pos k) -ℤ emin in
+    let s = sum-parts emin (pos k) in
+    let d = diff-parts (emin +ℤ pos k) emin in
+    omega (arith, size-parts z, apart z)
+
+-- a place up to the highest is an exponent of the format
+pub place-within : {f : Format} → Admitted f → (k : ℕ) → k ≤ highestPlace f → Upto (f .emin) (f .emin +ℤ pos k) × Upto (f .emin +ℤ pos k) (f .emax)
+place-within {f} a k h =
+    let s = sum-parts (f .emin) (pos k) in
+    let d = distances (a .range) in
+    let n = size-parts (f .emax -ℤ f .emin) in
+    (omega arith, omega arith)
+
+-- ---- records
+same-number : {s t : Bool} {m n : ℕ} {d e : ℤ} → s ≡ t → m ≡ n → d ≡ e
+    → _≡_ {A = Number} (record { negative = s; significand = m; exponent = d }) (record { negative = t; significand = n; exponent = e })
+same-number p q r = rw (p, q, r)
+
+no-size : (m : ℕ) {q : ℕ} → 1 ≤ q → eqb (m * q) 0 ≡ eqb m 0
+no-size zero {q} h = ap (λ (n : ℕ). eqb n 0) (zero-mul q)
+no-size (suc m) {q} h = ne-eqb (suc m * q) 0 (λ e. omega (arith, mul-le-mul-left (suc m) h)) ∙ sym (ne-eqb (suc m) 0 (λ e. omega arith))
+
+-- a number that is not zero keeps its sign
+keeps : (n : ℕ) (negative : Bool) → not (eqb (suc n) 0) && negative ≡ negative
+keeps n negative = ap (λ (t : Bool). not t && negative) (ne-eqb (suc n) 0 (λ e. omega arith))
+
+-- the sign of zero does not count
+zero-plus : (n : ℕ) (negative : Bool) → signed (not (eqb n 0) && negative) n ≡ signed negative n
+zero-plus zero true = refl
+zero-plus zero false = refl
+zero-plus (suc n) negative = ap (λ (t : Bool). signed t (suc n)) (keeps n negative)
+
+-- the number depends on the value alone
+pub number-same : (f : Format) (s t : Bool) (m n : ℕ) → signed s m ≡ signed t n → number f s m ≡ number f t n
+unfolding number
+number-same f s t m n e =
+    ap₂ (λ (b : Bool) (k : ℕ). record { negative = b; significand = k / step (f .base) (f .digits) k; exponent = f .emin +ℤ pos (place (f .base) (f .digits) k) })
+    (signs s t m n e) (sym (size-signed s m) ∙ ap natAbs e ∙ size-signed t n)
+  where
+    signs : (s t : Bool) (m n : ℕ) → signed s m ≡ signed t n → not (eqb m 0) && s ≡ not (eqb n 0) && t
+    signs s t zero zero e = refl
+    signs s t zero (suc n) e = absurd (omega (arith, sym (size-signed s 0) ∙ ap natAbs e ∙ size-signed t (suc n)))
+    signs s t (suc m) zero e = absurd (omega (arith, sym (size-signed s (suc m)) ∙ ap natAbs e ∙ size-signed t 0))
+    signs true true (suc m) (suc n) e = keeps m true ∙ sym (keeps n true)
+    signs true false (suc m) (suc n) e = absurd (omega (arith, ap above e))
+    signs false true (suc m) (suc n) e = absurd (omega (arith, ap above e))
+    signs false false (suc m) (suc n) e = keeps m false ∙ sym (keeps n false)
+
+module _ {f : Format} (a : Admitted f) where
+  -- ---- a number of the format
+  module _ {x : Number} (i : Member f x) where
+    pub member-canonical : Canonical (f .base) (f .digits) (x .significand) (placeOf f x)
+    member-canonical = record { small = i .significand-high; full = by (leb (f .base ^ (f .digits - 1)) (x .significand)) refl }
+      where
+        by : (t : Bool) → leb (f .base ^ (f .digits - 1)) (x .significand) ≡ t → (placeOf f x ≡ 0) ⊎ (f .base ^ f .digits ≤ f .base * x .significand)
+        by true l =
+            let h = leb-true _ _ l in
+            inr (rw (pow-pred (f .base) (a .digits-low)) (mul-le-mul (omega arith) h))
+        by false l =
+            let h = i .small-place (leb-false _ _ l) in
+            inl (omega (arith, size-parts (x .exponent -ℤ f .emin), diff-parts (x .exponent) (f .emin), apart (x .exponent -ℤ f .emin), i .exponent-low))
+
+    pub member-place : place (f .base) (f .digits) (magnitude f x) ≡ placeOf f x
+    unfolding magnitude
+    member-place = canonical-place (positional a) member-canonical
+
+    pub member-wide : Wide (f .base) (f .digits) (magnitude f x)
+    unfolding magnitude
+    member-wide = canonical-wide (positional a) member-canonical
+
+    pub member-highest : placeOf f x ≤ highestPlace f
+    member-highest =
+        let d = diff-parts (x .exponent) (f .emin) in
+        let g = diff-parts (f .emax) (f .emin) in
+        omega (arith, size-parts (x .exponent -ℤ f .emin), size-parts (f .emax -ℤ f .emin), apart (x .exponent -ℤ f .emin), i .exponent-low, i .exponent-high)
+
+    pub member-greatest : magnitude f x ≤ greatest f
+    unfolding magnitude greatest
+    member-greatest = mul-le-mul (omega (arith, i .significand-high)) (pow-mono (a .base-low) member-highest)
+
+    -- it is the canonical number of its value
+    pub number-of : (negative : Bool) → number f negative (magnitude f x) ≡ withSign x negative
+    unfolding number step magnitude
+    number-of negative =
+        same-number (ap (λ (t : Bool). not t && negative) zero-size) significand-size
+        (ap (λ (k : ℕ). f .emin +ℤ pos k) member-place ∙ place-back (f .emin) (x .exponent) (i .exponent-low))
+      where
+        zero-size : eqb (magnitude f x) 0 ≡ eqb (x .significand) 0
+        zero-size = no-size (x .significand) (pow-pos (a .base-low) (placeOf f x))
+
+        significand-size : magnitude f x / f .base ^ place (f .base) (f .digits) (magnitude f x) ≡ x .significand
+        significand-size =
+            ap (λ (k : ℕ). magnitude f x / f .base ^ k) member-place
+            ∙ mul-div-cancel (x .significand) (pow-pos (a .base-low) (placeOf f x))
+
+    pub own-sign : withSign x (x .negative) ≡ x
+    own-sign = same-number (by (x .significand) refl) refl refl
+      where
+        by : (m : ℕ) → x .significand ≡ m → not (eqb m 0) && x .negative ≡ x .negative
+        by zero e = sym (i .zero-sign e)
+        by (suc m) e = keeps m (x .negative)
+
+  -- ---- the canonical number of a magnitude of the wide format
+  greatest-below : greatest f < f .base ^ (f .digits + highestPlace f)
+  unfolding greatest
+  greatest-below =
+      rw pow-add
+      (mul-lt-mul-of-pos-right (omega (arith, pow-pos (a .base-low) (f .digits))) (pow-pos (a .base-low) (highestPlace f)))
+
+  pub place-highest : {n : ℕ} → n ≤ greatest f → place (f .base) (f .digits) n ≤ highestPlace f
+  place-highest h = place-le (positional a) (omega (arith, greatest-below))
+
+  module _ {n : ℕ} (w : Wide (f .base) (f .digits) n) (negative : Bool) where
+    pub number-magnitude : magnitude f (number f negative n) ≡ n
+    unfolding magnitude number step
+    number-magnitude =
+        ap (λ (k : ℕ). n / f .base ^ place (f .base) (f .digits) n * f .base ^ k) (place-there (f .emin) (place (f .base) (f .digits) n))
+        ∙ canonical-value (positional a) w
+
+    -- it has that value
+    pub number-value : value f (number f negative n) ≡ signed negative n
+    unfolding value number
+    number-value = ap (signed (not (eqb n 0) && negative)) number-magnitude ∙ zero-plus n negative
+
+    -- and is in the format, up to the greatest number
+    pub number-member : n ≤ greatest f → Member f (number f negative n)
+    unfolding number
+    number-member h =
+        let c = canonical-of (positional a) n in
+        let within = place-within a (place (f .base) (f .digits) n) (place-highest h) in
+        record {
+          significand-high = c .small;
+          exponent-low = within .0;
+          exponent-high = within .1;
+          small-place = λ s. at-least (c .full) s;
+          zero-sign = λ z. ap (λ (t : Bool). not t && negative) (eq-eqb n 0 (none z));
+        }
+      where
+        at-least : (place (f .base) (f .digits) n ≡ 0) ⊎ (f .base ^ f .digits ≤ f .base * (n / step (f .base) (f .digits) n))
+            → n / step (f .base) (f .digits) n < f .base ^ (f .digits - 1) → Upto (f .emin +ℤ pos (place (f .base) (f .digits) n)) (f .emin)
+        at-least (inl e) s = omega (arith, sum-parts (f .emin) (pos (place (f .base) (f .digits) n)))
+        at-least (inr l) s =
+            absurd (omega (arith, pow-pred (f .base) (a .digits-low), mul-lt-mul-of-pos-left {k = f .base} s (omega (arith, a .base-low))))
+
+        none : n / step (f .base) (f .digits) n ≡ 0 → n ≡ 0
+        none z = sym (canonical-value (positional a) w) ∙ ap (λ (m : ℕ). m * step (f .base) (f .digits) n) z ∙ zero-mul (step (f .base) (f .digits) n)
+
+  -- two numbers of the format with one value are the same record
+  pub member-unique : {x y : Number} → Member f x → Member f y → value f x ≡ value f y → x ≡ y
+  unfolding value
+  member-unique {x} {y} i j e =
+      sym (own-sign i) ∙ sym (number-of i (x .negative)) ∙ number-same f (x .negative) (y .negative) (magnitude f x) (magnitude f y) e ∙ number-of j (y .negative) ∙ own-sign j
+
+  -- the greatest number, and the smallest positive one
+  pub greatest-wide : Wide (f .base) (f .digits) (greatest f)
+  unfolding greatest
+  greatest-wide =
+      record {
+        significand = f .base ^ f .digits - 1;
+        exponent = highestPlace f;
+        small = omega (arith, pow-pos (a .base-low) (f .digits));
+        is = refl;
+      }
+
+  pub greatest-member : (negative : Bool) → Member f (number f negative (greatest f))
+  greatest-member negative = number-member greatest-wide negative (le-refl (greatest f))
+
+  pub one-greatest : 1 ≤ greatest f
+  unfolding greatest
+  one-greatest = mul-pos (omega (arith, pow-zero (f .base), pow-half (a .base-low) {i = 0} {j = f .digits} (a .digits-low))) (pow-pos (a .base-low) (highestPlace f))
+
+  pub one-member : (negative : Bool) → Member f (number f negative 1)
+  one-member negative = number-member (subst (Wide (f .base) (f .digits)) (pow-zero (f .base)) (wide-pow (positional a) 0)) negative one-greatest

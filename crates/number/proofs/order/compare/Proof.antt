@@ -1,0 +1,38 @@
+-- `number::order::compare` meets its contract.
+use borrow.Author.Needs.{needs}
+use mathlib.Core.Path.{sym, ap, _∙_}
+use Rattle.theory.proofs.Tests.{and-left, and-right}
+use Rattle.number.specs.Entry.{all}
+use Rattle.number.specs.Order.{compared}
+use Rattle.number.proofs.Entries.{Passed, passed, two-members, goes-on, ends}
+use Rattle.number.proofs.order.compare.Statement.{statement}
+use Rattle.number.proofs.order.compare.Tie as tie
+
+enter-two-requires : tie.Need-enter-two-requires
+enter-two-requires c κs = search needs
+
+enum-known-why : tie.Need-enum-known-why
+enum-known-why c = search needs
+
+enum-told : tie.Need-enum-told
+enum-told c = search needs
+
+compare-values-requires : tie.Need-compare-values-requires
+compare-values-requires c κs =
+    let p = passed _ _ _ (sym (c .before .before .enter-two .ensures) ∙ c .enum-told .given .1) in
+    let m = two-members p in
+    (p .format, m .0, m .1)
+
+returns : tie.Need-returns
+unfolding compared
+returns c = ends _ _ _ _ _ (sym (c .before .before .before .enter-two .ensures) ∙ c .before .why .given .1)
+
+returns-2 : tie.Need-returns-2
+unfolding compared
+returns-2 c =
+    let k = c .before in
+    c .compare-values .ensures ∙ goes-on _ _ _ _ _ (sym (k .before .before .enter-two .ensures) ∙ k .enum-told .given .1)
+
+pub compare-spec : {M : Type 1} → statement M
+compare-spec =
+    tie.close (tie.spec enter-two-requires enum-known-why enum-told compare-values-requires returns returns-2)

@@ -1,0 +1,58 @@
+-- `number::order::compare_values` meets its contract.
+use borrow.Author.Needs.{needs}
+use mathlib.Core.Path.{_≡_, ap₂, _∙_}
+use mathlib.Core.Bool.{Bool, true, false}
+use lib.IntN.{ℤ}
+use Rattle.theory.specs.Signed.{signed}
+use Rattle.format.specs.declared.Format.{Format}
+use Rattle.format.proofs.Formats.{admits}
+use Rattle.number.specs.declared.Number.{Number}
+use Rattle.number.specs.Numbers.{magnitude, value}
+use Rattle.number.specs.Order.{orderZ}
+use Rattle.number.proofs.Membership.{members}
+use Rattle.number.proofs.Comparison.{both-negative, both-positive, negative-less, positive-greater, negative-size}
+use Rattle.number.proofs.order.compare_values.Statement.{statement}
+use Rattle.number.proofs.order.compare_values.Tie as tie
+
+-- the values by their signs
+by-signs : (f : Format) (a b : Number) {s t : Bool} → a .negative ≡ s → b .negative ≡ t
+    → orderZ (signed s (magnitude f a)) (signed t (magnitude f b)) ≡ orderZ (value f a) (value f b)
+unfolding value
+by-signs f a b h k = rw (h, k)
+
+compare-magnitudes-requires : tie.Need-compare-magnitudes-requires
+compare-magnitudes-requires c κs = search needs
+
+returns : tie.Need-returns
+returns c =
+    let s = c .before .before .before .args in
+    c .compare-magnitudes .ensures ∙ both-negative _ _ ∙ by-signs (s .format) (s .a) (s .b) (c .before .before .if1 .taken) (c .before .if2 .taken)
+
+returns-2 : tie.Need-returns-2
+returns-2 c =
+    let p = c .before .before in
+    let s = p .args in
+    let ok = admits _ (p .pre .0) in
+    negative-less _ _ (negative-size ok (members _ ok (p .pre .1)) (c .before .if1 .taken))
+    ∙ by-signs (s .format) (s .a) (s .b) (c .before .if1 .taken) (c .if2 .left)
+
+returns-3 : tie.Need-returns-3
+returns-3 c =
+    let p = c .before .before in
+    let s = p .args in
+    let ok = admits _ (p .pre .0) in
+    positive-greater _ _ (negative-size ok (members _ ok (p .pre .2)) (c .if3 .taken))
+    ∙ by-signs (s .format) (s .a) (s .b) (c .before .if1 .left) (c .if3 .taken)
+
+compare-magnitudes-requires-2 : tie.Need-compare-magnitudes-requires-2
+compare-magnitudes-requires-2 c κs = search needs
+
+returns-4 : tie.Need-returns-4
+returns-4 c =
+    let s = c .before .before .before .args in
+    c .compare-magnitudes2 .ensures ∙ both-positive _ _ ∙ by-signs (s .format) (s .a) (s .b) (c .before .before .if1 .left) (c .before .if3 .left)
+
+pub compare-values-spec : {M : Type 1} → statement M
+compare-values-spec =
+    tie.close
+    (tie.spec compare-magnitudes-requires returns returns-2 returns-3 compare-magnitudes-requires-2 returns-4)

@@ -1,0 +1,22 @@
+-- Negation and magnitude.
+use mathlib.Core.Bool.{Bool, false, not, _&&_}
+use mathlib.Core.List.{[], _∷_}
+use lib.Dec.{eqb}
+use Rattle.format.specs.declared.Format.{Format}
+use Rattle.number.specs.declared.Number.{Number}
+use Rattle.number.specs.declared.Answer.{Answer}
+use Rattle.number.specs.declared.Answer.the-variants.{Value, Refused}
+use Rattle.number.specs.Numbers.{magnitude, number}
+use Rattle.number.specs.Entry.{entry, after}
+
+-- the record x with another sign; zero is plus
+abbrev pub withSign : Number → Bool → Number
+withSign x negative = record { negative = not (eqb (x .significand) 0) && negative; significand = x .significand; exponent = x .exponent }
+
+-- the answer of negate: the other sign, the same magnitude
+unfoldable pub negated : Format → Number → Answer
+negated f x = after (entry f [] (x ∷ [])) Refused (Value (number f (not (x .negative)) (magnitude f x)))
+
+-- the answer of magnitude
+unfoldable pub unsigned : Format → Number → Answer
+unsigned f x = after (entry f [] (x ∷ [])) Refused (Value (number f false (magnitude f x)))

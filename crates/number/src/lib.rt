@@ -1,0 +1,30 @@
+// Numbers of a format: which are in it, the checks that every call begins with, comparison, negation and magnitude.
+pub mod entry;
+pub mod exponents;
+pub mod members;
+pub mod order;
+pub mod signs;
+
+use format::Refusal;
+use format::Significand;
+
+// The value (-1)^negative * significand * base^exponent.
+pub struct Number {
+    pub negative: bool,
+    pub significand: Significand,
+    pub exponent: i32,
+}
+
+// A number, or why there is none.
+pub enum Answer {
+    Value(Number),
+    Refused(Refusal),
+}
+
+// How the first of two numbers stands to the second.
+pub enum Ordered {
+    Less,
+    Equal,
+    Greater,
+    Refused(Refusal),
+}

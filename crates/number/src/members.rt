@@ -1,0 +1,36 @@
+// Which numbers are in a format.
+use crate::Number;
+use format::Format;
+use format::Prepared;
+ghost use mathlib.Core.Path.{_≡_};
+ghost use mathlib.Core.Bool.{true};
+ghost use Rattle.format.specs.Formats.{admitted, preparedOf};
+ghost use Rattle.number.specs.Numbers.{member};
+
+// Is x in the format that was prepared?
+pub fn is_member(prepared: Prepared, x: Number) -> bool
+    ensures { λ r. ⌜ ((f : Format) → admitted f ≡ true → prepared ≡ preparedOf f → r ≡ member f x) ⌝ }
+{
+    let m = x.significand;
+    let e = x.exponent;
+    let emin = prepared.format.emin;
+    if e < emin {
+        return false;
+    }
+    if prepared.format.emax < e {
+        return false;
+    }
+    if prepared.scale.top <= m {
+        return false;
+    }
+    if prepared.scale.full <= m {
+        return true;
+    }
+    if emin < e {
+        return false;
+    }
+    if m == 0 {
+        return !x.negative;
+    }
+    true
+}

@@ -1,0 +1,48 @@
+// A number with its sign turned, and without its sign.
+use crate::Answer;
+use crate::Number;
+use crate::entry::enter;
+use format::Format;
+use format::Preparation;
+ghost use mathlib.Core.Path.{_≡_};
+ghost use Rattle.number.specs.Signs.{withSign, negated, unsigned};
+
+// x with the sign `negative`; zero stays plus.
+pub fn with_sign(x: Number, negative: bool) -> Number
+    ensures { λ r. ⌜ r ≡ withSign x negative ⌝ }
+{
+    let m = x.significand;
+    let e = x.exponent;
+    if m == 0 {
+        return Number {
+            negative: false,
+            significand: m,
+            exponent: e,
+        };
+    }
+    Number {
+        negative: negative,
+        significand: m,
+        exponent: e,
+    }
+}
+
+// -x. Refuses 1, 3.
+pub fn negate(format: Format, x: Number) -> Answer
+    ensures { λ r. ⌜ r ≡ negated format x ⌝ }
+{
+    match enter(format, x) {
+        Preparation::Refused(why) => Answer::Refused(why),
+        Preparation::Ready(_) => Answer::Value(with_sign(x, !x.negative)),
+    }
+}
+
+// |x|. Refuses 1, 3.
+pub fn magnitude(format: Format, x: Number) -> Answer
+    ensures { λ r. ⌜ r ≡ unsigned format x ⌝ }
+{
+    match enter(format, x) {
+        Preparation::Refused(why) => Answer::Refused(why),
+        Preparation::Ready(_) => Answer::Value(with_sign(x, false)),
+    }
+}
