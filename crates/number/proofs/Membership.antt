@@ -13,10 +13,11 @@ use Rattle.theory.proofs.Integers.{above, below, parts-eq}
 use Rattle.theory.proofs.Powers.{pow-pos}
 use Rattle.format.specs.declared.Format.{Format}
 use Rattle.format.specs.declared.Prepared.{Prepared}
-use Rattle.format.specs.Formats.{admitted, preparedOf}
+use Rattle.format.specs.Formats.{admitted, preparedOf, highestPlace}
 use Rattle.format.proofs.Signed.{Upto, le-true, make-le}
 use Rattle.format.proofs.Formats.{Admitted, admits, full-top}
 use Rattle.number.specs.declared.Number.{Number}
+use Rattle.number.specs.Entry.{Usable}
 use Rattle.number.specs.Numbers.{equalZ, normal, small, isZero, member}
 
 equal-true : (a b : ℤ) → equalZ a b ≡ true → a ≡ b
@@ -132,18 +133,28 @@ module _ {f : Format} (x : Number) (a : Admitted f) where
 -- ---- a prepared format in place of the format
 pub record Known (q : Prepared) : Type 0 where
   pub admits : Admitted (q .format)
+  pub base : q .scale .base ≡ q .format .base
+  pub digits : q .scale .digits ≡ q .format .digits
   pub full : q .scale .full ≡ q .format .base ^ (q .format .digits - 1)
   pub top : q .scale .top ≡ q .format .base ^ q .format .digits
+  pub highest : q .highest ≡ highestPlace (q .format)
 
-pub known : (q : Prepared) {f : Format} → admitted f ≡ true → q ≡ preparedOf f → Known q
-known q {f} h e =
-    let same : q .format ≡ f = ap (λ (r : Prepared). r .format) e in
+pub known : {q : Prepared} → Usable q → Known q
+known {q} u =
     record {
-      admits = admits (q .format) (ap admitted same ∙ h);
-      full = ap (λ (r : Prepared). r .scale .full) e ∙ ap (λ (g : Format). g .base ^ (g .digits - 1)) (sym same);
-      top = ap (λ (r : Prepared). r .scale .top) e ∙ ap (λ (g : Format). g .base ^ g .digits) (sym same);
+      admits = admits (q .format) (u .format);
+      base = ap (λ (r : Prepared). r .scale .base) (u .is);
+      digits = ap (λ (r : Prepared). r .scale .digits) (u .is);
+      full = ap (λ (r : Prepared). r .scale .full) (u .is);
+      top = ap (λ (r : Prepared). r .scale .top) (u .is);
+      highest = ap (λ (r : Prepared). r .highest) (u .is);
     }
+
+pub usable : {q : Prepared} {f : Format} → admitted f ≡ true → q ≡ preparedOf f → Usable q
+usable {q} {f} h e =
+    let same : q .format ≡ f = ap (λ (r : Prepared). r .format) e in
+    record { format = ap admitted same ∙ h; is = e ∙ ap preparedOf (sym same) }
 
 pub decided : (q : Prepared) (x : Number) {r : Bool} → (Known q → r ≡ member (q .format) x)
     → (f : Format) → admitted f ≡ true → q ≡ preparedOf f → r ≡ member f x
-decided q x h f a e = h (known q a e) ∙ ap (λ (r : Prepared). member (r .format) x) e
+decided q x h f a e = h (known (usable a e)) ∙ ap (λ (r : Prepared). member (r .format) x) e

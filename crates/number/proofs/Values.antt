@@ -8,7 +8,7 @@ use native.Mathlib.Omega.{arith}
 use native.Mathlib.Nat.{le-refl, mul-div-cancel, mul-le-mul, mul-le-mul-left, mul-lt-mul-of-pos-left, mul-lt-mul-of-pos-right, mul-pos, zero-mul, pow-zero}
 use lib.Dec.{eqb, leb}
 use lib.IntN.{ℤ, pos, negsuc, natAbs, _+ℤ_, _-ℤ_}
-use borrow.Author.Tests.{leb-true, leb-false, le-leb, ne-eqb, eq-eqb}
+use borrow.Author.Tests.{leb-true, leb-false, le-leb, lt-leb, ne-eqb, eq-eqb}
 use Rattle.theory.specs.Place.{Positional, place, step}
 use Rattle.theory.specs.Wide.{Wide, Canonical}
 use Rattle.theory.specs.Signed.{signed}
@@ -17,12 +17,15 @@ use Rattle.theory.proofs.Powers.{pow-add, pow-pos, pow-pred, pow-mono, pow-half
 use Rattle.theory.proofs.Place.{place-le}
 use Rattle.theory.proofs.Wide.{wide-pow}
 use Rattle.theory.proofs.Canonical.{canonical-place, canonical-wide, canonical-unique, canonical-of, canonical-value}
+use Rattle.theory.proofs.Tests.{unless-passed, unless-failed}
 use Rattle.format.specs.declared.Format.{Format}
-use Rattle.format.specs.Formats.{highestPlace}
+use Rattle.format.specs.declared.Refusal.the-variants.{TooLarge}
+use Rattle.format.specs.Formats.{exponentsAdmitted, highestPlace}
 use Rattle.format.proofs.Signed.{Upto, apart}
-use Rattle.format.proofs.Formats.{Admitted, positional, top-full, Exponents, distances}
+use Rattle.format.proofs.Formats.{Admitted, positional, exponents-made, distances}
 use Rattle.number.specs.declared.Number.{Number}
-use Rattle.number.specs.Numbers.{placeOf, magnitude, value, greatest, number}
+use Rattle.number.specs.declared.Answer.the-variants.{Value, Refused}
+use Rattle.number.specs.Numbers.{placeOf, magnitude, value, greatest, number, delivered}
 use Rattle.number.specs.Signs.{withSign}
 use Rattle.number.proofs.Membership.{Member, full-positive}
 
@@ -51,6 +54,15 @@ place-within {f} a k h =
     let n = size-parts (f .emax -ℤ f .emin) in
     (omega arith, omega arith)
 
+-- emin by itself
+pub emin-admitted : {f : Format} → Admitted f → exponentsAdmitted (f .emin) (f .emin) ≡ true
+emin-admitted a =
+    let r = a .range in
+    exponents-made (record { emin-low = r .emin-low; emin-emax = omega arith; emax-high = omega arith })
+
+pub highest-most : {f : Format} → Admitted f → highestPlace f ≤ 2400
+highest-most {f} a = let d = distances (a .range) in omega (arith, size-parts (f .emax -ℤ f .emin))
+
 -- ---- records
 same-number : {s t : Bool} {m n : ℕ} {d e : ℤ} → s ≡ t → m ≡ n → d ≡ e
     → _≡_ {A = Number} (record { negative = s; significand = m; exponent = d }) (record { negative = t; significand = n; exponent = e })
@@ -63,6 +75,10 @@ no-size (suc m) {q} h = ne-eqb (suc m * q) 0 (λ e. omega (arith, mul-le-mul-lef
 -- a number that is not zero keeps its sign
 keeps : (n : ℕ) (negative : Bool) → not (eqb (suc n) 0) && negative ≡ negative
 keeps n negative = ap (λ (t : Bool). not t && negative) (ne-eqb (suc n) 0 (λ e. omega arith))
+
+-- a significand at a place, with a sign
+abbrev pub written : Format → (negative : Bool) (m k : ℕ) → Number
+written f negative m k = record { negative = not (eqb m 0) && negative; significand = m; exponent = f .emin +ℤ pos k }
 
 -- the sign of zero does not count
 zero-plus : (n : ℕ) (negative : Bool) → signed (not (eqb n 0) && negative) n ≡ signed negative n
@@ -87,6 +103,34 @@ number-same f s t m n e =
     signs false false (suc m) (suc n) e = keeps m false ∙ sym (keeps n false)
 
 module _ {f : Format} (a : Admitted f) where
+  greatest-below : greatest f < f .base ^ (f .digits + highestPlace f)
+  unfolding greatest
+  greatest-below =
+      rw pow-add
+      (mul-lt-mul-of-pos-right (omega (arith, pow-pos (a .base-low) (f .digits))) (pow-pos (a .base-low) (highestPlace f)))
+
+  -- ---- a significand at a place, as it is written
+  module _ {m k : ℕ} (c : Canonical (f .base) (f .digits) m k) where
+    pub number-canonical : (negative : Bool) → number f negative (m * f .base ^ k) ≡ written f negative m k
+    unfolding number step
+    number-canonical negative =
+        same-number (ap (λ (t : Bool). not t && negative) (no-size m (pow-pos (a .base-low) k)))
+        (ap (λ (i : ℕ). m * f .base ^ k / f .base ^ i) (canonical-place (positional a) c) ∙ mul-div-cancel m (pow-pos (a .base-low) k))
+        (ap (λ (i : ℕ). f .emin +ℤ pos i) (canonical-place (positional a) c))
+
+    -- it is at most the greatest number exactly when its place is at most the highest
+    pub canonical-within : k ≤ highestPlace f → m * f .base ^ k ≤ greatest f
+    unfolding greatest
+    canonical-within h = mul-le-mul (omega (arith, c .small)) (pow-mono (a .base-low) h)
+
+    pub canonical-beyond : highestPlace f < k → greatest f < m * f .base ^ k
+    canonical-beyond h = ⊎-elim (λ e. absurd (omega arith)) (λ full. beyond full) (c .full)
+      where
+        beyond : f .base ^ f .digits ≤ f .base * m → greatest f < m * f .base ^ k
+        beyond full =
+            let one : f .base ^ f .digits * f .base ^ highestPlace f ≤ f .base * m * f .base ^ (k - 1) = mul-le-mul full (pow-mono (a .base-low) (omega arith)) in
+            omega (arith, greatest-below, pow-add (f .base) (f .digits) (highestPlace f), ap (λ (q : ℕ). m * q) (pow-pred (f .base) {k = k} (omega arith)))
+
   -- ---- a number of the format
   module _ {x : Number} (i : Member f x) where
     pub member-canonical : Canonical (f .base) (f .digits) (x .significand) (placeOf f x)
@@ -120,18 +164,9 @@ module _ {f : Format} (a : Admitted f) where
 
     -- it is the canonical number of its value
     pub number-of : (negative : Bool) → number f negative (magnitude f x) ≡ withSign x negative
-    unfolding number step magnitude
+    unfolding magnitude
     number-of negative =
-        same-number (ap (λ (t : Bool). not t && negative) zero-size) significand-size
-        (ap (λ (k : ℕ). f .emin +ℤ pos k) member-place ∙ place-back (f .emin) (x .exponent) (i .exponent-low))
-      where
-        zero-size : eqb (magnitude f x) 0 ≡ eqb (x .significand) 0
-        zero-size = no-size (x .significand) (pow-pos (a .base-low) (placeOf f x))
-
-        significand-size : magnitude f x / f .base ^ place (f .base) (f .digits) (magnitude f x) ≡ x .significand
-        significand-size =
-            ap (λ (k : ℕ). magnitude f x / f .base ^ k) member-place
-            ∙ mul-div-cancel (x .significand) (pow-pos (a .base-low) (placeOf f x))
+        number-canonical member-canonical negative ∙ same-number refl refl (place-back (f .emin) (x .exponent) (i .exponent-low))
 
     pub own-sign : withSign x (x .negative) ≡ x
     own-sign = same-number (by (x .significand) refl) refl refl
@@ -141,12 +176,6 @@ module _ {f : Format} (a : Admitted f) where
         by (suc m) e = keeps m (x .negative)
 
   -- ---- the canonical number of a magnitude of the wide format
-  greatest-below : greatest f < f .base ^ (f .digits + highestPlace f)
-  unfolding greatest
-  greatest-below =
-      rw pow-add
-      (mul-lt-mul-of-pos-right (omega (arith, pow-pos (a .base-low) (f .digits))) (pow-pos (a .base-low) (highestPlace f)))
-
   pub place-highest : {n : ℕ} → n ≤ greatest f → place (f .base) (f .digits) n ≤ highestPlace f
   place-highest h = place-le (positional a) (omega (arith, greatest-below))
 
@@ -184,6 +213,16 @@ module _ {f : Format} (a : Admitted f) where
 
         none : n / step (f .base) (f .digits) n ≡ 0 → n ≡ 0
         none z = sym (canonical-value (positional a) w) ∙ ap (λ (m : ℕ). m * step (f .base) (f .digits) n) z ∙ zero-mul (step (f .base) (f .digits) n)
+
+  -- ---- a result of the wide format
+  module _ {m k : ℕ} (c : Canonical (f .base) (f .digits) m k) (negative : Bool) where
+    pub delivered-within : k ≤ highestPlace f → delivered f negative (m * f .base ^ k) ≡ Value (number f negative (m * f .base ^ k))
+    unfolding delivered
+    delivered-within h = unless-passed _ _ (le-leb _ _ (canonical-within c h))
+
+    pub delivered-beyond : highestPlace f < k → delivered f negative (m * f .base ^ k) ≡ Refused TooLarge
+    unfolding delivered
+    delivered-beyond h = unless-failed _ _ (lt-leb _ _ (canonical-beyond c h))
 
   -- two numbers of the format with one value are the same record
   pub member-unique : {x y : Number} → Member f x → Member f y → value f x ≡ value f y → x ≡ y

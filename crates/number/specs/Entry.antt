@@ -1,11 +1,13 @@
 -- The checks that every call begins with, in the order of document 01: the format (1), the directions (2), the numbers (3).
 use Prim.Native.Nat.{ℕ}
+use mathlib.Core.Path.{_≡_}
 use mathlib.Core.Bool.{Bool, true}
 use mathlib.Core.List.{List, [], _∷_}
 use Rattle.theory.specs.Tests.{_and_, unless}
 use Rattle.format.specs.declared.Format.{Format}
 use Rattle.format.specs.declared.Verdict.{Verdict}
 use Rattle.format.specs.declared.Verdict.the-variants as verdict
+use Rattle.format.specs.declared.Prepared.{Prepared}
 use Rattle.format.specs.declared.Preparation.{Preparation}
 use Rattle.format.specs.declared.Preparation.the-variants as prepared
 use Rattle.format.specs.declared.Refusal.{Refusal}
@@ -34,3 +36,8 @@ after (verdict.Refused why) refused go-on = refused why
 -- the check with the prepared format
 unfoldable pub entered : Format → (directions : List ℕ) (numbers : List Number) → Preparation
 entered f directions numbers = after (entry f directions numbers) prepared.Refused (prepared.Ready (preparedOf f))
+
+-- ---- what a passed check hands to the inner functions: an admitted format, prepared
+pub record Usable (q : Prepared) : Type 0 where
+  pub format : admitted (q .format) ≡ true
+  pub is : q ≡ preparedOf (q .format)

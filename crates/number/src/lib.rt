@@ -1,4 +1,5 @@
 // Numbers of a format: which are in it, the checks that every call begins with, comparison, negation and magnitude.
+pub mod delivery;
 pub mod entry;
 pub mod exponents;
 pub mod members;

@@ -1,0 +1,38 @@
+-- `number::delivery::number_at` meets its contract.
+use borrow.Author.Needs.{needs}
+use mathlib.Core.Path.{_≡_, sym, ap, _∙_}
+use native.Mathlib.Omega.{arith}
+use lib.IntN.{ℤ, pos, _+ℤ_}
+use mir.Syntax.{w32}
+use mir.Val.{SFits}
+use Rattle.format.proofs.Signed.{back}
+use Rattle.number.specs.Signs.{withSign}
+use Rattle.number.proofs.Membership.{known}
+use Rattle.number.proofs.Values.{emin-admitted, highest-most, number-canonical}
+use Rattle.number.proofs.delivery.number_at.Statement.{statement}
+use Rattle.number.proofs.delivery.number_at.Tie as tie
+
+emin-fits : (c : tie.Start) → SFits w32 (c .args .prepared .format .emin)
+emin-fits c = search needs
+
+exponent-at-requires : tie.Need-exponent-at-requires
+exponent-at-requires c κs =
+    let s = c .before in
+    let k = known (s .pre .0) in
+    rw (back (emin-fits s)) (emin-admitted (k .admits), omega (arith, s .pre .2, k .highest, highest-most (k .admits)))
+
+with-sign-requires : tie.Need-with-sign-requires
+with-sign-requires c κs = search needs
+
+returns : tie.Need-returns
+returns c =
+    let s = c .before .before .before in
+    let k = known (s .pre .0) in
+    c .with-sign .ensures
+    ∙ ap
+    (λ (e : ℤ). withSign (record { negative = s .args .negative; significand = s .args .significand; exponent = e }) (s .args .negative))
+    (back (record { sfits = c .before .exponent-at .ok }) ∙ c .before .exponent-at .ensures ∙ ap (λ (e : ℤ). e +ℤ pos (s .args .place)) (back (emin-fits s)))
+    ∙ sym (number-canonical (k .admits) (s .pre .1) (s .args .negative))
+
+pub number-at-spec : {M : Type 1} → statement M
+number-at-spec = tie.close (tie.spec exponent-at-requires with-sign-requires returns)
