@@ -1,0 +1,74 @@
+-- What a scale says of its base and digits.
+use Prim.Native.Nat.{ℕ, suc, _^_, _+_, _*_, _-_, _≤_, _<_}
+use mathlib.Core.Path.{_≡_, sym, ap, ap₂, _∙_}
+use native.Mathlib.Nat.{mul-le-mul, mul-le-mul-right, pow-le-pow-left, mul-le-mul-left, pow-succ', pow-suc, pow-zero, lt-of-not-le, le-of-suc-le-suc}
+use native.Mathlib.Numerals.{add-one}
+use native.Mathlib.Omega.{arith}
+use Rattle.theory.specs.Place.{Positional}
+use Rattle.theory.proofs.Powers.{pow-add, pow-pred, pow-mono, pow-le-cancel}
+use Rattle.format.specs.declared.Scale.{Scale}
+use Rattle.format.specs.Formats.{greatestPower, Scaled}
+use Rattle.rounding.specs.Digits.{Unit}
+
+pub positional : {s : Scale} → Scaled s → Positional (s .base) (s .digits)
+positional h = record { base = h .base-least; digits = h .digits-least }
+
+pub power-at : (β : ℕ) {i j : ℕ} → i ≡ j → β ^ i ≡ β ^ j
+power-at β = ap (λ (i : ℕ). β ^ i)
+
+pub power-next : (β k : ℕ) → β ^ k * β ≡ β ^ (k + 1)
+power-next β k = rw (add-one, pow-suc)
+
+pub power-one : (β : ℕ) → β ^ 1 ≡ β
+power-one β = pow-suc β 0 ∙ rw pow-zero (omega arith)
+
+pub unit-next : {s : Scale} {unit shift : ℕ} → Unit s unit shift → unit * s .base ≡ s .base ^ (shift + 1)
+unit-next {s} {shift = shift} u = ap (λ (v : ℕ). v * s .base) (u .is) ∙ power-next (s .base) shift
+
+-- a number below β ^ q has at most q digits
+pub count-le : {β n : ℕ} → 2 ≤ β → (c q : ℕ) → β ^ c ≤ β * n → n < β ^ q → c ≤ q
+count-le {β} {n} hβ c q l m =
+    le-of-suc-le-suc (lt-of-not-le (λ (k : suc q ≤ c). omega (arith, pow-mono hβ k, pow-succ' β q, mul-le-mul-left β m)))
+
+module _ {s : Scale} (h : Scaled s) where
+  pub square : s .top * s .top ≡ s .base ^ (2 * s .digits)
+  square = rw (h .top-power) (sym (pow-add (s .base) (s .digits) (s .digits)) ∙ power-at (s .base) (omega arith))
+
+  pub square-most : s .base ^ (2 * s .digits) ≤ greatestPower * greatestPower
+  square-most = omega (arith, square, mul-le-mul (h .top-most) (h .top-most))
+
+  -- every power up to twice the digits fits
+  pub power-most : {k : ℕ} → k ≤ 2 * s .digits → s .base ^ k ≤ greatestPower * greatestPower
+  power-most l = omega (arith, square-most, pow-mono (h .base-least) l)
+
+  -- a power above the digits
+  pub power-beyond : {k w : ℕ} → s .digits ≤ k → w ≡ s .base ^ (k - s .digits) → s .top * w ≡ s .base ^ k
+  power-beyond {k} l e =
+      ap₂ _*_ (h .top-power) e ∙ sym (pow-add (s .base) (s .digits) (k - s .digits)) ∙ power-at (s .base) (omega arith)
+
+  pub full-top : s .top ≡ s .base * s .full
+  full-top = h .top-power ∙ pow-pred (s .base) (h .digits-least) ∙ ap (λ (n : ℕ). s .base * n) (sym (h .full-power))
+
+  pub unit-top : {unit shift : ℕ} → Unit s unit shift → unit * s .top ≡ s .base ^ (s .digits + shift)
+  unit-top {unit} {shift} u = rw (u .is, h .top-power, pow-add (s .base) (s .digits) shift) (omega arith)
+
+  pub unit-most : {unit shift : ℕ} → Unit s unit shift → unit ≤ s .top
+  unit-most u = omega (arith, u .is, h .top-power, pow-mono (h .base-least) (u .most))
+
+  pub full-unit : Unit s (s .full) (s .digits - 1)
+  full-unit = record { is = h .full-power; most = omega arith }
+
+  pub one-unit : Unit s 1 0
+  one-unit = record { is = sym (pow-zero (s .base)); most = omega arith }
+
+  -- a number below top * top has at most twice the digits
+  pub count-most : {n c : ℕ} → s .base ^ c ≤ s .base * n → n < s .top * s .top → c ≤ 2 * s .digits
+  count-most {n} {c} l m = count-le (h .base-least) c (2 * s .digits) l (omega (arith, square))
+
+  -- one digit more, where the power is at most n
+  pub count-room : {n : ℕ} (c : ℕ) → s .base ^ c ≤ n → n < s .top * s .top → c + 1 ≤ 2 * s .digits
+  count-room {n} c l m = count-most (omega (arith, power-next (s .base) c, mul-le-mul-right (s .base) l)) m
+
+  -- the digits are few against the limits on places
+  pub digits-most : s .digits ≤ 100
+  digits-most = pow-le-cancel {β = 2} (omega arith) (s .digits) 100 (omega (arith, h .top-power, h .top-most, pow-le-pow-left (h .base-least) (s .digits)))
