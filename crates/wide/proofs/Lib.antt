@@ -1,0 +1,8 @@
+-- The laws that the operations' proofs go by, and that the crates above cite.
+pub mod Signs
+pub mod Sizes
+pub mod Deliveries
+pub mod Sums
+pub mod Products
+pub mod Quotients
+pub mod Results

@@ -1,0 +1,158 @@
+-- The cut of a sum, where the numbers overlap and where they are far apart.
+use Prim.Native.Nat.{ℕ, suc, _^_, _+_, _*_, _-_, _≤_, _<_}
+use mathlib.Core.Path.{_≡_, refl, sym, ap, ap₂, _∙_}
+use mathlib.Core.Logic.{_≢_, inl, inr, ⊎-elim}
+use mathlib.Core.Bool.{Bool, true, false, Bool·beq}
+use native.Mathlib.Nat.{mul-le-mul-left, mul-le-mul-right, mul-lt-mul-of-pos-right, mul-pos, add-zero, le-of-mul-le-mul-left, le-antisymm, pow-zero}
+use native.Mathlib.Omega.{arith}
+use lib.IntN.{ℤ, natAbs, _+ℤ_}
+use Rattle.theory.specs.Place.{Positional}
+use Rattle.theory.specs.Wide.{Canonical}
+use Rattle.theory.specs.Signed.{signed}
+use Rattle.theory.proofs.Powers.{pow-add, pow-pos, pow-pred, pow-mono, pow-half}
+use Rattle.theory.proofs.Integers.{size-signed}
+use Rattle.format.specs.declared.Scale.{Scale}
+use Rattle.format.specs.Formats.{Scaled}
+use Rattle.rounding.specs.declared.Cut.{Cut}
+use Rattle.rounding.specs.declared.Location.{Location}
+use Rattle.rounding.specs.declared.Location.the-variants.{Exact, Below, Above}
+use Rattle.rounding.specs.Cut.{cutOf}
+use Rattle.rounding.specs.Location.{located}
+use Rattle.rounding.proofs.Locations.{located-exact, located-below, located-above, located-scaled}
+use Rattle.rounding.proofs.Places.{cut-is}
+use Rattle.rounding.proofs.Scales.{positional, power-at, full-top}
+use Rattle.wide.specs.declared.Wide.{Wide}
+use Rattle.wide.specs.Operand.{Operand, sizeOf, valueOf}
+use Rattle.wide.specs.Sum.{Adds, SumCut, belowPower}
+use Rattle.wide.proofs.Signs.{sum-agree, sum-differ, sum-none, sub-times}
+
+-- a sign and a magnitude of z make its cut
+pub sum-cut-made : (s : Scale) {z : ℤ} {a : Bool} {c : Cut} (n : ℕ) → z ≡ signed a n → c ≡ cutOf (s .base) (s .digits) n 1
+    → SumCut s z (record { negative = a; cut = c })
+sum-cut-made s {z} {a} n e f =
+    let size : natAbs z ≡ n = ap natAbs e ∙ size-signed a n in
+    record {
+      sign = e ∙ ap (signed a) (sym size);
+      size = f ∙ ap (λ (k : ℕ). cutOf (s .base) (s .digits) k 1) (sym size);
+    }
+
+-- ---- the numbers overlap: w is the power that brings x to the place of y
+module _ {s : Scale} (h : Scaled s) {x y : Wide} (hx : Operand s x) (hy : Operand s y) (gap : ℕ) {w : ℕ}
+    (at : x .place ≡ y .place + gap) (pw : w ≡ s .base ^ gap) where
+  pub near-most : gap ≤ s .digits → x .significand * w + y .significand < s .top * s .top
+  near-most l =
+      let top : s .top ≡ s .base ^ s .digits = h .top-power in
+      let w-most : w ≤ s .top = omega (arith, pow-mono (h .base-least) l) in
+      let x-most : suc (x .significand) ≤ s .top = omega (arith, hx .canonical .small) in
+      omega (arith, hy .canonical .small, mul-le-mul-left (x .significand) w-most, mul-le-mul-right (s .top) x-most)
+
+  near-scaled : sizeOf (s .base) x ≡ x .significand * w * s .base ^ y .place
+  near-scaled = rw (at, pow-add, pw) (omega arith)
+
+  pub near-sum-cut : {a : Bool} {n : ℕ} {c : Cut} → Adds (x .negative) (x .significand * w) (y .negative) (y .significand) a n
+      → c ≡ cutOf (s .base) (s .digits) (n * s .base ^ y .place) (s .base ^ 0)
+      → SumCut s (valueOf (s .base) x +ℤ valueOf (s .base) y) (record { negative = a; cut = c })
+  near-sum-cut {n = n} add e =
+      sum-cut-made s (n * s .base ^ y .place)
+      (ap (λ (v : ℕ). signed (x .negative) v +ℤ valueOf (s .base) y) near-scaled ∙ add .sum (s .base ^ y .place))
+      (e ∙ ap (cutOf (s .base) (s .digits) (n * s .base ^ y .place)) (pow-zero (s .base)))
+
+-- ---- the numbers are far apart
+-- a value is m steps and a rest, where m at k is in canonical form
+pub canonical-cut : {β p m k : ℕ} → Positional β p → Canonical β p m k → (r : ℕ) → r < β ^ k
+    → cutOf β p (m * β ^ k + r) 1 ≡ record { steps = m; place = k; location = located r (β ^ k) }
+canonical-cut {β} {p} {m} {k} ok c r l =
+    cut-is ok (omega arith) m r (β ^ k) 1 1
+    (record {
+      below = rw pow-add (omega (arith, mul-le-mul-right (β ^ k) (c .small)));
+      full = ⊎-elim inl (λ (f : β ^ p ≤ β * m). inr (rw pow-add (omega (arith, mul-le-mul-right (β ^ k) f)))) (c .full);
+    })
+    (omega arith) (omega arith) (omega arith) (omega arith) l
+
+-- y = 0
+pub far-none : {s : Scale} → Scaled s → {x : Wide} (y : Wide) → Operand s x → y .significand ≡ 0
+    → SumCut s (valueOf (s .base) x +ℤ valueOf (s .base) y) (record { negative = x .negative; cut = record { steps = x .significand; place = x .place; location = Exact } })
+far-none {s} h {x} y hx e =
+    let none : sizeOf (s .base) y ≡ 0 = rw e (omega arith) in
+    sum-cut-made s (sizeOf (s .base) x)
+    (ap (λ (v : ℕ). valueOf (s .base) x +ℤ signed (y .negative) v) none ∙ sum-none (x .negative) (y .negative) (sizeOf (s .base) x))
+    (sym (rw (add-zero, located-exact 0 (s .base ^ x .place) refl) at (canonical-cut (positional h) (hx .canonical) 0 (pow-pos (h .base-least) (x .place)))))
+
+module _ {s : Scale} (h : Scaled s) {x y : Wide} (hx : Operand s x) (hy : Operand s y) (gap : ℕ)
+    (at : x .place ≡ y .place + gap) (far : s .digits < gap) (some : 1 ≤ y .significand) where
+  y-below : sizeOf (s .base) y < s .base ^ (x .place - 1)
+  y-below =
+      omega (
+        arith,
+        pow-add (s .base) (s .digits) (y .place),
+        mul-lt-mul-of-pos-right (hy .canonical .small) (pow-pos (h .base-least) (y .place)),
+        pow-mono (h .base-least) {i = s .digits + y .place} {j = x .place - 1} (omega arith),
+      )
+
+  y-half : 2 * sizeOf (s .base) y < s .base ^ x .place
+  y-half = omega (arith, y-below, pow-half (h .base-least) {i = x .place - 1} {j = x .place} (omega arith))
+
+  y-some : sizeOf (s .base) y ≢ 0
+  y-some e = omega (arith, mul-pos some (pow-pos (h .base-least) (y .place)))
+
+  x-full : x .significand ≤ s .full → x .significand ≡ s .full
+  x-full l =
+      le-antisymm l
+      (⊎-elim (λ z. absurd (omega (arith, at, far)))
+      (λ (f : s .base ^ s .digits ≤ s .base * x .significand).
+      le-of-mul-le-mul-left {k = s .base} (omega (arith, f, full-top h, h .top-power)) (omega (arith, h .base-least)))
+      (hx .canonical .full))
+
+  full-some : 1 ≤ s .full
+  full-some = omega (arith, h .full-power, pow-pos (h .base-least) (s .digits - 1))
+
+  top-two : 2 ≤ s .top
+  top-two = omega (arith, full-top h, h .base-least, mul-le-mul-left (s .base) full-some)
+
+  same-location : located (s .base ^ (x .place - 1) - sizeOf (s .base) y) (s .base ^ (x .place - 1)) ≡ belowPower (s .base) (y .significand) gap
+  unfolding belowPower
+  same-location =
+      let unit : s .base ^ (x .place - 1) ≡ s .base ^ (gap - 1) * s .base ^ y .place =
+      power-at (s .base) (omega arith) ∙ pow-add (s .base) (gap - 1) (y .place) in
+      let m-most : y .significand ≤ s .base ^ (gap - 1) =
+      omega (arith, hy .canonical .small, pow-mono (h .base-least) {i = s .digits} {j = gap - 1} (omega arith)) in
+      located-scaled _ _ _ _ 1 (s .base ^ y .place) (omega arith) (pow-pos (h .base-least) (y .place))
+      (omega (arith, unit, sub-times (s .base ^ (gap - 1)) (y .significand) (s .base ^ y .place) m-most)) (omega (arith, unit))
+
+  pub far-agree : Bool·beq (x .negative) (y .negative) ≡ true
+      → SumCut s (valueOf (s .base) x +ℤ valueOf (s .base) y) (record { negative = x .negative; cut = record { steps = x .significand; place = x .place; location = Below } })
+  far-agree e =
+      sum-cut-made s (sizeOf (s .base) x + sizeOf (s .base) y) (sum-agree (x .negative) (y .negative) e (sizeOf (s .base) x) (sizeOf (s .base) y))
+      (sym (canonical-cut (positional h) (hx .canonical) (sizeOf (s .base) y) (omega (arith, y-half))
+      ∙ ap (λ (l : Location). record { steps = x .significand; place = x .place; location = l }) (located-below _ _ y-some y-half)))
+
+  -- x leads with more than the power: the number before it is a step away
+  pub far-differ : Bool·beq (x .negative) (y .negative) ≡ false → s .full < x .significand
+      → SumCut s (valueOf (s .base) x +ℤ valueOf (s .base) y) (record { negative = x .negative; cut = record { steps = x .significand - 1; place = x .place; location = Above } })
+  far-differ e l =
+      let n : ℕ = x .significand - 1 in
+      let B : ℕ = s .base ^ x .place in
+      let split : sizeOf (s .base) x ≡ (n + 1) * B = ap (λ (m : ℕ). m * B) (omega arith) in
+      let leads : s .base * s .full ≤ s .base * n = mul-le-mul-left (s .base) (omega arith) in
+      let before : Canonical (s .base) (s .digits) n (x .place) =
+      record { small = omega (arith, hx .canonical .small); full = inr (omega (arith, full-top h, h .top-power)) } in
+      sum-cut-made s (n * B + (B - sizeOf (s .base) y))
+      (sum-differ (x .negative) (y .negative) e (sizeOf (s .base) x) (sizeOf (s .base) y) (omega (arith, y-half)) ∙ ap (signed (x .negative)) (omega (arith, y-half)))
+      (sym (canonical-cut (positional h) before (B - sizeOf (s .base) y) (omega (arith, y-some, y-half))
+      ∙ ap (λ (l : Location). record { steps = n; place = x .place; location = l }) (located-above _ _ (omega (arith, y-half)))))
+
+  -- x is a power: the numbers before it are nearer together
+  pub far-power : Bool·beq (x .negative) (y .negative) ≡ false → x .significand ≤ s .full → {l : Location} → l ≡ belowPower (s .base) (y .significand) gap
+      → SumCut s (valueOf (s .base) x +ℤ valueOf (s .base) y) (record { negative = x .negative; cut = record { steps = s .top - 1; place = x .place - 1; location = l } })
+  far-power e l f =
+      let k : ℕ = x .place - 1 in
+      let B : ℕ = s .base ^ k in
+      let unit : s .base ^ x .place ≡ s .base * B = pow-pred (s .base) (omega arith) in
+      let split : sizeOf (s .base) x ≡ s .top * B = ap₂ _*_ (x-full l) unit ∙ omega (arith, ap (λ (v : ℕ). v * B) (full-top h)) in
+      let steps : s .top * B ≡ (s .top - 1 + 1) * B = ap (λ (v : ℕ). v * B) (omega (arith, top-two)) in
+      let before : Canonical (s .base) (s .digits) (s .top - 1) k =
+      record { small = omega (arith, top-two, h .top-power); full = inr (omega (arith, top-two, h .top-power, mul-le-mul-right (s .top - 1) (h .base-least))) } in
+      sum-cut-made s ((s .top - 1) * B + (B - sizeOf (s .base) y))
+      (sum-differ (x .negative) (y .negative) e (sizeOf (s .base) x) (sizeOf (s .base) y) (omega (arith, y-below)) ∙ ap (signed (x .negative)) (omega (arith, y-below)))
+      (sym (canonical-cut (positional h) before (B - sizeOf (s .base) y) (omega (arith, y-some, y-below))
+      ∙ ap (λ (l : Location). record { steps = s .top - 1; place = k; location = l }) (same-location ∙ sym f)))

@@ -1,0 +1,96 @@
+-- `wide::product::product` meets its contract: the cut of the exact product, delivered.
+use borrow.Author.Needs.{needs}
+use Prim.Native.Nat.{ℕ, _^_, _*_, _≤_}
+use mathlib.Core.Path.{_≡_, ap, _∙_}
+use mathlib.Core.Bool.{xor}
+use native.Mathlib.Omega.{arith}
+use Rattle.theory.proofs.Powers.{pow-pos}
+use Rattle.rounding.specs.Cut.{cutOf}
+use Rattle.rounding.proofs.Scales.{positional, digits-most, square, square-most, full-unit}
+use Rattle.wide.specs.Operand.{sizeOf}
+use Rattle.wide.specs.Product.{multiplied}
+use Rattle.wide.proofs.Products.{product-small, product-value}
+use Rattle.wide.proofs.Sizes.{product-size}
+use Rattle.wide.proofs.Deliveries.{steps-fit, place-fit}
+use Rattle.wide.proofs.product.product.Statement.{statement}
+use Rattle.wide.proofs.product.product.Tie as tie
+
+cast-n : tie.Need-cast-n
+cast-n c = search needs
+
+cast-n-2 : tie.Need-cast-n-2
+cast-n-2 c = search needs
+
+mul-n : tie.Need-mul-n
+mul-n c =
+    let p = c .before .before .pre in
+    omega (arith, product-small (p .0) (p .1) (p .2), square (p .0), square-most (p .0))
+
+add-cut : tie.Need-add-cut
+add-cut c = search needs
+
+add-cut-2 : tie.Need-add-cut-2
+add-cut-2 c = search needs
+
+cast-cut : tie.Need-cast-cut
+cast-cut c = search needs
+
+sub-cut : tie.Need-sub-cut
+sub-cut c = search needs
+
+abbrev start : tie.After-cut → tie.Start
+start c = c .before .before .before .before .before .before .before
+
+abbrev numerator : tie.Start → ℕ
+numerator c = sizeOf (c .args .scale .base) (c .args .x) * sizeOf (c .args .scale .base) (c .args .y) * c .args .scale .base ^ c .args .up
+
+abbrev denominator : tie.Start → ℕ
+denominator c = c .args .scale .base ^ c .args .down
+
+positive : (c : tie.Start) → 1 ≤ denominator c
+positive c = pow-pos (c .pre .0 .base-least) (c .args .down)
+
+-- the cut is that of the exact product
+exact : (c : tie.After-cut) → c .cut .result ≡ cutOf (start c .args .scale .base) (start c .args .scale .digits) (numerator (start c)) (denominator (start c))
+exact c =
+    let s = start c in
+    let p = s .pre in
+    c .cut .ensures
+    ∙ ap (λ (n : ℕ). cutOf (s .args .scale .base) (s .args .scale .digits) n (denominator s)) (product-value (p .0) (p .1) (p .2) (s .args .up))
+
+cut-requires : tie.Need-cut-requires
+cut-requires c κs =
+    let p = c .before .before .before .before .before .before .pre in
+    (p .0, product-small (p .0) (p .1) (p .2), omega (arith, p .1 .place-most, p .2 .place-most, p .3), omega (arith, p .4), full-unit (p .0))
+
+deliver-requires : tie.Need-deliver-requires
+deliver-requires c κs =
+    let b = c .before .before in
+    let s = start b in
+    let p = s .pre in (
+      p .0,
+      steps-fit (p .0) (numerator s) (denominator s) (positive s) (exact b),
+      omega (arith, place-fit (p .0) (numerator s) (denominator s) (positive s) (exact b) (2 ^ 30) (product-size (positional (p .0)) (s .args .x) (s .args .y) (p .1 .canonical) (p .2 .canonical) (s .args .up) (2 ^ 30) (omega (arith, digits-most (p .0), p .1 .place-most, p .2 .place-most, p .3)))),
+    )
+
+returns : tie.Need-returns
+unfolding multiplied xor
+returns c =
+    let b = c .before .before .before in
+    let s = start b in
+    c .deliver .ensures (numerator s) (denominator s) (positive s) (exact b)
+
+pub product-spec : {M : Type 1} → statement M
+product-spec =
+    tie.close
+    (tie.spec
+    cast-n
+    cast-n-2
+    mul-n
+    add-cut
+    add-cut-2
+    cast-cut
+    sub-cut
+    cut-requires
+    deliver-requires
+    returns)

@@ -1,0 +1,158 @@
+// The sum. Numbers that overlap are added exactly; of numbers far apart only the location of the smaller one counts.
+use crate::SignedCut;
+use crate::Wide;
+use crate::delivery::deliver;
+use format::Direction;
+use format::Scale;
+use format::Significand;
+use rounding::Cut;
+use rounding::Location;
+use rounding::choice::locate;
+use rounding::cutting::cut;
+use rounding::digits::power;
+ghost use mathlib.Core.Path.{_≡_};
+ghost use Prim.Native.Nat.{_+_, _*_, _<_, _≤_, _^_};
+ghost use lib.IntN.{_+ℤ_};
+ghost use Rattle.format.specs.Formats.{Scaled};
+ghost use Rattle.wide.specs.Operand.{Operand, valueOf};
+ghost use Rattle.wide.specs.Sum.{Adds, SumCut, summed, belowPower};
+
+// A sign and a magnitude, in any unit.
+struct SignedSize {
+    negative: bool,
+    size: u64,
+}
+
+// The sum of two signed magnitudes of one unit.
+fn add_signed(a: bool, v: u64, b: bool, w: u64) -> SignedSize
+    requires { ⌜ v + w < 2 ^ 64 ⌝ }
+    ensures { λ r. ⌜ Adds a v b w (r .negative) (r .size) ⌝ }
+{
+    if a == b {
+        return SignedSize {
+            negative: a,
+            size: v + w,
+        };
+    }
+    if w <= v {
+        return SignedSize {
+            negative: a,
+            size: v - w,
+        };
+    }
+    SignedSize {
+        negative: b,
+        size: w - v,
+    }
+}
+
+// The sum of two numbers whose places differ by at most `digits`.
+fn near_sum(scale: Scale, x: Wide, y: Wide, gap: u32) -> SignedCut
+    requires { ⌜ Scaled scale × Operand scale x × Operand scale y × (x .place ≡ y .place + gap) × (gap ≤ scale .digits) ⌝ }
+    ensures { λ r. ⌜ SumCut scale (valueOf (scale .base) x +ℤ valueOf (scale .base) y) r ⌝ }
+{
+    let unit = power(scale, gap);
+    let high = x.significand as u64 * unit;
+    let exact = add_signed(x.negative, high, y.negative, y.significand as u64);
+    SignedCut {
+        negative: exact.negative,
+        cut: cut(scale, exact.size, y.place, 0, unit, gap),
+    }
+}
+
+// Where base ^ (gap - 1) - m lies in base ^ (gap - 1).
+fn below_power(scale: Scale, m: Significand, gap: u32) -> Location
+    requires { ⌜ Scaled scale × (m < scale .top) × (scale .digits < gap) ⌝ }
+    ensures { λ r. ⌜ r ≡ belowPower (scale .base) m gap ⌝ }
+{
+    if scale.digits + 1 < gap {
+        return Location::Above;
+    }
+    locate((scale.top - m) as u64, scale.top as u64)
+}
+
+// The sum of two numbers whose places differ by more: |y| is below half a step of x, and below a whole step of the number before x.
+fn far_sum(scale: Scale, x: Wide, y: Wide, gap: u32) -> SignedCut
+    requires { ⌜ Scaled scale × Operand scale x × Operand scale y × (x .place ≡ y .place + gap) × (scale .digits < gap) × (1 ≤ y .significand) ⌝ }
+    ensures { λ r. ⌜ SumCut scale (valueOf (scale .base) x +ℤ valueOf (scale .base) y) r ⌝ }
+{
+    let m = x.significand;
+    let place = x.place;
+    let negative = x.negative;
+    if negative == y.negative {
+        let cut = Cut {
+            steps: m,
+            place: place,
+            location: Location::Below,
+        };
+        return SignedCut {
+            negative: negative,
+            cut: cut,
+        };
+    }
+    if scale.full < m {
+        let cut = Cut {
+            steps: m - 1,
+            place: place,
+            location: Location::Above,
+        };
+        return SignedCut {
+            negative: negative,
+            cut: cut,
+        };
+    }
+    let cut = Cut {
+        steps: scale.top - 1,
+        place: place - 1,
+        location: below_power(scale, y.significand, gap),
+    };
+    SignedCut {
+        negative: negative,
+        cut: cut,
+    }
+}
+
+// The sum of two numbers, the one with the higher place first.
+fn ordered_sum(scale: Scale, x: Wide, y: Wide) -> SignedCut
+    requires { ⌜ Scaled scale × Operand scale x × Operand scale y × (y .place ≤ x .place) ⌝ }
+    ensures { λ r. ⌜ SumCut scale (valueOf (scale .base) x +ℤ valueOf (scale .base) y) r ⌝ }
+{
+    let gap = x.place - y.place;
+    if gap <= scale.digits {
+        return near_sum(scale, x, y, gap);
+    }
+    if y.significand == 0 {
+        let cut = Cut {
+            steps: x.significand,
+            place: x.place,
+            location: Location::Exact,
+        };
+        return SignedCut {
+            negative: x.negative,
+            cut: cut,
+        };
+    }
+    far_sum(scale, x, y, gap)
+}
+
+// The sum of two numbers, in either order.
+fn sum_cut(scale: Scale, x: Wide, y: Wide) -> SignedCut
+    requires { ⌜ Scaled scale × Operand scale x × Operand scale y ⌝ }
+    ensures { λ r. ⌜ SumCut scale (valueOf (scale .base) x +ℤ valueOf (scale .base) y) r ⌝ }
+{
+    if x.place < y.place {
+        ordered_sum(scale, y, x)
+    } else {
+        ordered_sum(scale, x, y)
+    }
+}
+
+// x + y, rounded.
+pub fn sum(scale: Scale, direction: Direction, x: Wide, y: Wide) -> Wide
+    requires { ⌜ Scaled scale × Operand scale x × Operand scale y ⌝ }
+    ensures { λ r. ⌜ r ≡ summed (scale .base) (scale .digits) direction x y ⌝ }
+{
+    let exact = sum_cut(scale, x, y);
+    let cut = exact.cut;
+    deliver(scale, direction, exact.negative, cut)
+}
