@@ -1,5 +1,5 @@
 -- The numbers of a format: what membership says, as facts that `omega` reads, and how it is made.
-use mathlib.Core.Path.{_≡_, refl, sym, ap, _∙_}
+use mathlib.Core.Path.{_≡_, refl, sym, ap, subst, _∙_}
 use mathlib.Core.Bool.{Bool, true, false, not}
 use mathlib.Core.Logic.{_⊎_, inl, inr, ⊎-elim}
 use Prim.Native.Nat.{ℕ, _-_, _^_, _≤_, _<_}
@@ -13,9 +13,9 @@ use Rattle.theory.proofs.Integers.{above, below, parts-eq}
 use Rattle.theory.proofs.Powers.{pow-pos}
 use Rattle.format.specs.declared.Format.{Format}
 use Rattle.format.specs.declared.Prepared.{Prepared}
-use Rattle.format.specs.Formats.{admitted, preparedOf, highestPlace}
+use Rattle.format.specs.Formats.{admitted, preparedOf, highestPlace, Scaled}
 use Rattle.format.proofs.Signed.{Upto, le-true, make-le}
-use Rattle.format.proofs.Formats.{Admitted, admits, full-top}
+use Rattle.format.proofs.Formats.{Admitted, admits, full-top, scaled}
 use Rattle.number.specs.declared.Number.{Number}
 use Rattle.number.specs.Entry.{Usable}
 use Rattle.number.specs.Numbers.{equalZ, normal, small, isZero, member}
@@ -149,6 +149,9 @@ known {q} u =
       top = ap (λ (r : Prepared). r .scale .top) (u .is);
       highest = ap (λ (r : Prepared). r .highest) (u .is);
     }
+
+pub usable-scaled : {q : Prepared} → Usable q → Scaled (q .scale)
+usable-scaled {q} u = subst Scaled (sym (ap (λ (r : Prepared). r .scale) (u .is))) (scaled (admits (q .format) (u .format)))
 
 pub usable : {q : Prepared} {f : Format} → admitted f ≡ true → q ≡ preparedOf f → Usable q
 usable {q} {f} h e =

@@ -64,7 +64,7 @@ pub highest-most : {f : Format} → Admitted f → highestPlace f ≤ 2400
 highest-most {f} a = let d = distances (a .range) in omega (arith, size-parts (f .emax -ℤ f .emin))
 
 -- ---- records
-same-number : {s t : Bool} {m n : ℕ} {d e : ℤ} → s ≡ t → m ≡ n → d ≡ e
+pub same-number : {s t : Bool} {m n : ℕ} {d e : ℤ} → s ≡ t → m ≡ n → d ≡ e
     → _≡_ {A = Number} (record { negative = s; significand = m; exponent = d }) (record { negative = t; significand = n; exponent = e })
 same-number p q r = rw (p, q, r)
 
@@ -143,6 +143,11 @@ module _ {f : Format} (a : Admitted f) where
         by false l =
             let h = i .small-place (leb-false _ _ l) in
             inl (omega (arith, size-parts (x .exponent -ℤ f .emin), diff-parts (x .exponent) (f .emin), apart (x .exponent -ℤ f .emin), i .exponent-low))
+
+    pub member-exponents : exponentsAdmitted (f .emin) (x .exponent) ≡ true
+    member-exponents =
+        let r = a .range in
+        exponents-made (record { emin-low = r .emin-low; emin-emax = i .exponent-low; emax-high = omega (arith, i .exponent-high) })
 
     pub member-place : place (f .base) (f .digits) (magnitude f x) ≡ placeOf f x
     unfolding magnitude

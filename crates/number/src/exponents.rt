@@ -1,10 +1,23 @@
 // Signed exponents and the places that the arithmetic counts in: place k is the exponent emin + k.
+use crate::Number;
+use format::Prepared;
+use format::admission::distance;
 ghost use mathlib.Core.Path.{_≡_};
 ghost use mathlib.Core.Bool.{true};
 ghost use Prim.Native.Nat.{_≤_};
 ghost use lib.IntN.{pos, _+ℤ_};
 ghost use Rattle.format.specs.Formats.{exponentsAdmitted};
+ghost use Rattle.number.specs.Entry.{Usable};
+ghost use Rattle.number.specs.Numbers.{member, placeOf};
 ghost use Rattle.number.specs.Exponents.{aboveZero, belowZero};
+
+// The place of x: how far its exponent lies above emin.
+pub fn place_of(prepared: Prepared, x: Number) -> u32
+    requires { ⌜ Usable prepared × (member (prepared .format) x ≡ true) ⌝ }
+    ensures { λ r. ⌜ r ≡ placeOf (prepared .format) x ⌝ }
+{
+    distance(prepared.format.emin, x.exponent)
+}
 
 // The exponent at `place` places above emin.
 pub fn exponent_at(emin: i32, place: u32) -> i32

@@ -1,0 +1,7 @@
+-- Laws of places and neighbours.
+pub mod Forms
+pub mod Written
+pub mod Entered
+pub mod Sides
+pub mod NeighbourLaws
+pub mod PlaceLaws

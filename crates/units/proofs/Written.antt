@@ -1,0 +1,93 @@
+-- The places and neighbours of a number of the format, as the code writes them.
+use Prim.Native.Nat.{ℕ, zero, suc, _^_, _+_, _*_, _-_, _≤_, _<_}
+use mathlib.Core.Path.{_≡_, refl, sym, ap, ap₂, _∙_}
+use mathlib.Core.Bool.{Bool, true, false, not, _&&_}
+use mathlib.Core.Logic.{_⊎_}
+use native.Mathlib.Nat.{zero-mul, lt-of-not-le, mul-le-mul-right}
+use native.Mathlib.Omega.{arith}
+use lib.Dec.{eqb}
+use lib.IntN.{ℤ, pos, _+ℤ_}
+use Rattle.theory.specs.Wide.{Canonical}
+use Rattle.theory.specs.Signed.{signed}
+use Rattle.theory.specs.Units.{ufp, ulp, uls, zeros}
+use Rattle.theory.specs.Neighbours.{lower, upper}
+use Rattle.theory.proofs.Powers.{pow-pos, pow-mono}
+use Rattle.theory.proofs.Units.{ufp-shift, ulp-canonical, uls-shift, zeros-found}
+use Rattle.format.specs.declared.Format.{Format}
+use Rattle.format.specs.Formats.{highestPlace}
+use Rattle.format.proofs.Formats.{Admitted, positional}
+use Rattle.number.specs.declared.Number.{Number}
+use Rattle.number.specs.Numbers.{placeOf, magnitude, number, delivered}
+use Rattle.number.proofs.Membership.{Member}
+use Rattle.number.proofs.Values.{place-back, number-same, number-canonical, number-of, own-sign, member-canonical, member-highest}
+use Rattle.units.proofs.Forms.{first-canonical, next-size, carry-size, before-size, below-size}
+
+zero-signed : (s : Bool) → signed s 0 ≡ signed false 0
+zero-signed true = refl
+zero-signed false = refl
+
+plus : (t : Bool) → not t && false ≡ false
+plus true = refl
+plus false = refl
+
+-- fewer zeros than digits
+zeros-below : {β p m : ℕ} → 2 ≤ β → 1 ≤ m → m < β ^ p → zeros β m < p
+zeros-below {β} {p} {m} hβ hm h = lt-of-not-le (λ (l : p ≤ zeros β m). go (zeros-found hβ m hm .multiple .times) (zeros-found hβ m hm .multiple .is) l)
+  where
+    go : (t : ℕ) → m ≡ t * β ^ zeros β m → p ≤ zeros β m → ⊥
+    go zero e l = omega (arith, zero-mul (β ^ zeros β m))
+    go (suc t) e l = omega (arith, pow-mono hβ l)
+
+module _ {f : Format} {x : Number} (a : Admitted f) (i : Member f x) where
+  own : Canonical (f .base) (f .digits) (x .significand) (placeOf f x)
+  own = member-canonical a i
+
+  -- zero has zero for a place
+  pub zero-place : (place : ℕ → ℕ) → place 0 ≡ 0 → x .significand ≡ 0 → x ≡ number f false (place (magnitude f x))
+  unfolding magnitude
+  zero-place place none e =
+      let size : magnitude f x ≡ 0 = ap (λ (m : ℕ). m * f .base ^ placeOf f x) e ∙ zero-mul (f .base ^ placeOf f x) in
+      sym (own-sign a i) ∙ sym (number-of a i (x .negative)) ∙ ap (number f (x .negative)) size
+      ∙ number-same f (x .negative) false 0 0 (zero-signed (x .negative))
+      ∙ ap (number f false) (sym none ∙ ap place (sym size))
+
+  pub first-written : number f false (ufp (f .base) (magnitude f x)) ≡ record { negative = false; significand = ufp (f .base) (x .significand); exponent = x .exponent }
+  unfolding magnitude
+  first-written =
+      ap (number f false) (ufp-shift (a .base-low) (x .significand) (placeOf f x))
+      ∙ number-canonical a (first-canonical (positional a) own) false
+      ∙ ap₂ (λ (s : Bool) (e : ℤ). record { negative = s; significand = ufp (f .base) (x .significand); exponent = e })
+      (plus (eqb (ufp (f .base) (x .significand)) 0)) (place-back (f .emin) (x .exponent) (i .exponent-low))
+
+  module _ (some : 1 ≤ x .significand) where
+    pub last-power : f .base ^ placeOf f x ≡ ulp (f .base) (f .digits) (magnitude f x)
+    unfolding magnitude
+    last-power = sym (ulp-canonical (positional a) own some)
+
+    pub least-power : f .base ^ (placeOf f x + zeros (f .base) (x .significand)) ≡ uls (f .base) (magnitude f x)
+    unfolding magnitude
+    least-power = sym (uls-shift (a .base-low) (x .significand) (placeOf f x) some)
+
+    pub least-room : placeOf f x + zeros (f .base) (x .significand) < f .digits + highestPlace f
+    least-room = omega (arith, member-highest a i, zeros-below (a .base-low) some (i .significand-high))
+
+  -- the next greater magnitude, at the same place or past the last significand
+  pub next-written : suc (x .significand) * f .base ^ placeOf f x ≡ upper (f .base) (f .digits) (suc (magnitude f x))
+  unfolding magnitude
+  next-written = sym (next-size (positional a) own)
+
+  pub carry-written : suc (x .significand) ≡ f .base ^ f .digits
+      → f .base ^ (f .digits - 1) * f .base ^ (placeOf f x + 1) ≡ upper (f .base) (f .digits) (suc (magnitude f x))
+  unfolding magnitude
+  carry-written e = carry-size (positional a) own e ∙ sym (next-size (positional a) own)
+
+  -- the next smaller one, at the same place or below a power of the base
+  pub before-written : 1 ≤ x .significand → (placeOf f x ≡ 0) ⊎ (f .base ^ (f .digits - 1) < x .significand)
+      → (x .significand - 1) * f .base ^ placeOf f x ≡ lower (f .base) (f .digits) (magnitude f x - 1)
+  unfolding magnitude
+  before-written some low = sym (before-size (positional a) own some low)
+
+  pub below-written : x .significand ≡ f .base ^ (f .digits - 1) → 1 ≤ placeOf f x
+      → (f .base ^ f .digits - 1) * f .base ^ (placeOf f x - 1) ≡ lower (f .base) (f .digits) (magnitude f x - 1)
+  unfolding magnitude
+  below-written e h = sym (below-size (positional a) own e h)

@@ -1,0 +1,76 @@
+-- `units::neighbours::away` meets its contract.
+use borrow.Author.Needs.{needs}
+use mathlib.Core.Path.{_≡_, refl, sym, ap, ap₂, _∙_}
+use native.Mathlib.Numerals.{add-one}
+use native.Mathlib.Omega.{arith}
+use Prim.Native.Nat.{ℕ, suc, _+_, _*_, _^_}
+use Rattle.format.proofs.Formats.{positional}
+use Rattle.number.specs.Numbers.{delivered}
+use Rattle.number.proofs.Membership.{Member, members, Known, known}
+use Rattle.number.proofs.Values.{member-canonical, member-highest, highest-most}
+use Rattle.units.proofs.Forms.{canonical-as, power-high, next-canonical}
+use Rattle.units.proofs.Written.{next-written, carry-written}
+use Rattle.units.proofs.neighbours.away.Statement.{statement}
+use Rattle.units.proofs.neighbours.away.Tie as tie
+
+facts : (c : tie.Start) → Known (c .args .prepared)
+facts c = known (c .pre .0)
+
+inner : (c : tie.Start) → Member (c .args .prepared .format) (c .args .x)
+inner c = members _ (facts c .admits) (c .pre .1)
+
+place-of-requires : tie.Need-place-of-requires
+place-of-requires c κs = search needs
+
+add-next : tie.Need-add-next
+add-next c =
+    let s = c .before .before in
+    omega (arith, inner s .significand-high, facts s .admits .power-high)
+
+add-deliver : tie.Need-add-deliver
+add-deliver c =
+    let p = c .before .before .before in
+    let a = facts (p .before) .admits in
+    omega (arith, p .place-of .ensures, member-highest a (inner (p .before)), highest-most a)
+
+-- past the last significand
+last : (c : tie.Then1) → let s = c .before .before .before .before in suc (s .args .x .significand) ≡ s .args .prepared .format .base ^ s .args .prepared .format .digits
+last c = let s = c .before .before .before .before in sym (add-one (s .args .x .significand)) ∙ c .if1 .taken ∙ facts s .top
+
+deliver-requires : tie.Need-deliver-requires
+deliver-requires c κs =
+    let s = c .before .before .before .before in
+    (s .pre .0, canonical-as (facts s .full) refl (power-high (positional (facts s .admits)) _))
+
+returns : tie.Need-returns
+returns c =
+    let p = c .before .before .before .before in
+    let s = p .before in
+    let f = s .args .prepared .format in
+    c .deliver .ensures
+    ∙ ap (delivered f (s .args .negative))
+    (ap₂ (λ (m k : ℕ). m * f .base ^ (k + 1)) (facts s .full) (p .place-of .ensures) ∙ carry-written (facts s .admits) (inner s) (last (c .before)))
+
+deliver-requires-2 : tie.Need-deliver-requires-2
+deliver-requires-2 c κs =
+    let p = c .before .before .before in
+    let s = p .before in
+    let a = facts s .admits in (
+      s .pre .0,
+      canonical-as (add-one (s .args .x .significand)) (p .place-of .ensures)
+          (next-canonical (positional a) (member-canonical a (inner s)) (omega (arith, inner s .significand-high, c .if1 .left, facts s .top))),
+    )
+
+returns-2 : tie.Need-returns-2
+returns-2 c =
+    let p = c .before .before .before .before in
+    let s = p .before in
+    let f = s .args .prepared .format in
+    c .deliver2 .ensures
+    ∙ ap (delivered f (s .args .negative))
+    (ap₂ (λ (m k : ℕ). m * f .base ^ k) (add-one (s .args .x .significand)) (p .place-of .ensures) ∙ next-written (facts s .admits) (inner s))
+
+pub away-spec : {M : Type 1} → statement M
+away-spec =
+    tie.close
+    (tie.spec place-of-requires add-next add-deliver deliver-requires returns deliver-requires-2 returns-2)

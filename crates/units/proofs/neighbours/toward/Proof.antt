@@ -1,0 +1,126 @@
+-- `units::neighbours::toward` meets its contract.
+use borrow.Author.Needs.{needs}
+use mathlib.Core.Path.{_≡_, refl, sym, ap, ap₂, _∙_}
+use mathlib.Core.Logic.{_⊎_, inl, inr}
+use native.Mathlib.Omega.{arith}
+use Prim.Native.Nat.{ℕ, _*_, _-_, _^_, _<_}
+use Rattle.format.proofs.Formats.{positional}
+use Rattle.number.specs.Numbers.{placeOf, delivered}
+use Rattle.number.proofs.Membership.{Member, members, Known, known}
+use Rattle.number.proofs.Values.{member-canonical}
+use Rattle.theory.proofs.Powers.{pow-pos}
+use Rattle.units.proofs.Forms.{canonical-as, full-digits, before-canonical, below-canonical}
+use Rattle.units.proofs.Written.{before-written, below-written}
+use Rattle.units.proofs.neighbours.toward.Statement.{statement}
+use Rattle.units.proofs.neighbours.toward.Tie as tie
+
+facts : (c : tie.Start) → Known (c .args .prepared)
+facts c = known (c .pre .0)
+
+inner : (c : tie.Start) → Member (c .args .prepared .format) (c .args .x)
+inner c = members _ (facts c .admits) (c .pre .1)
+
+place-of-requires : tie.Need-place-of-requires
+place-of-requires c κs = search needs
+
+sub-deliver : tie.Need-sub-deliver
+sub-deliver c = search needs
+
+-- where the step below is the step above: at the least place, and between powers
+abbrev Level : tie.Start → Type 0
+Level s = (placeOf (s .args .prepared .format) (s .args .x) ≡ 0) ⊎ (s .args .prepared .format .base ^ (s .args .prepared .format .digits - 1) < s .args .x .significand)
+
+least : (c : tie.Then1) → Level (c .before .before)
+least c = inl (sym (c .before .place-of .ensures) ∙ c .if1 .taken)
+
+between : (c : tie.Else2) → Level (c .before .before .before .before)
+between c =
+    let e = c .before .before in
+    let s = e .before .before in
+    let k = facts s in
+    let h = full-digits (positional (k .admits)) (member-canonical (k .admits) (inner s)) (omega (arith, e .before .place-of .ensures, e .if1 .left)) in
+    inr (omega (arith, k .full, c .if2 .left))
+
+deliver-requires : tie.Need-deliver-requires
+deliver-requires c κs =
+    let s = c .before .before in
+    let a = facts s .admits in
+    (s .pre .0, canonical-as refl (c .before .place-of .ensures) (before-canonical (positional a) (member-canonical a (inner s)) (s .pre .2) (least c)))
+
+returns : tie.Need-returns
+returns c =
+    let p = c .before .before in
+    let s = p .before in
+    let f = s .args .prepared .format in
+    c .deliver .ensures
+    ∙ ap (delivered f (s .args .negative))
+    (ap (λ (k : ℕ). (s .args .x .significand - 1) * f .base ^ k) (p .place-of .ensures) ∙ before-written (facts s .admits) (inner s) (s .pre .2) (least (c .before)))
+
+sub-deliver-2 : tie.Need-sub-deliver-2
+sub-deliver-2 c =
+    let s = c .before .before .before .before .before in
+    omega (arith, facts s .top, pow-pos (facts s .admits .base-low) (s .args .prepared .format .digits))
+
+sub-deliver-3 : tie.Need-sub-deliver-3
+sub-deliver-3 c = search needs
+
+-- a power above the least place
+power : (c : tie.After-struct-known2) → let s = c .before .before .before .before .before in s .args .x .significand ≡ s .args .prepared .format .base ^ (s .args .prepared .format .digits - 1)
+power c = let s = c .before .before .before .before .before in c .before .if2 .taken ∙ facts s .full
+
+deliver-requires-2 : tie.Need-deliver-requires-2
+deliver-requires-2 c κs =
+    let e = c .before .before .before in
+    let s = e .before .before in
+    let a = facts s .admits in (
+      s .pre .0,
+      canonical-as (ap (λ (t : ℕ). t - 1) (facts s .top)) (ap (λ (k : ℕ). k - 1) (e .before .place-of .ensures))
+          (below-canonical (positional a) (member-canonical a (inner s)) (power c) (omega (arith, e .before .place-of .ensures, e .if1 .left))),
+    )
+
+returns-2 : tie.Need-returns-2
+returns-2 c =
+    let e = c .before .before .before .before in
+    let p = e .before in
+    let s = p .before in
+    let f = s .args .prepared .format in
+    c .deliver2 .ensures
+    ∙ ap (delivered f (s .args .negative))
+    (ap₂ (λ (t k : ℕ). (t - 1) * f .base ^ (k - 1)) (facts s .top) (p .place-of .ensures)
+    ∙ below-written (facts s .admits) (inner s) (power (c .before)) (omega (arith, p .place-of .ensures, e .if1 .left)))
+
+sub-deliver-4 : tie.Need-sub-deliver-4
+sub-deliver-4 c = search needs
+
+deliver-requires-3 : tie.Need-deliver-requires-3
+deliver-requires-3 c κs =
+    let p = c .before .before .before in
+    let s = p .before in
+    let a = facts s .admits in
+    (s .pre .0, canonical-as refl (p .place-of .ensures) (before-canonical (positional a) (member-canonical a (inner s)) (s .pre .2) (between c)))
+
+returns-3 : tie.Need-returns-3
+returns-3 c =
+    let p = c .before .before .before .before in
+    let s = p .before in
+    let f = s .args .prepared .format in
+    c .deliver3 .ensures
+    ∙ ap (delivered f (s .args .negative))
+    (ap (λ (k : ℕ). (s .args .x .significand - 1) * f .base ^ k) (p .place-of .ensures)
+    ∙ before-written (facts s .admits) (inner s) (s .pre .2) (between (c .before)))
+
+pub toward-spec : {M : Type 1} → statement M
+toward-spec =
+    tie.close
+    (tie.spec
+    place-of-requires
+    sub-deliver
+    deliver-requires
+    returns
+    sub-deliver-2
+    sub-deliver-3
+    deliver-requires-2
+    returns-2
+    sub-deliver-4
+    deliver-requires-3
+    returns-3)

@@ -1,0 +1,42 @@
+-- `units::places::last_place` meets its contract.
+use borrow.Author.Needs.{needs}
+use mathlib.Core.Path.{refl, ap, _∙_}
+use mathlib.Core.Bool.{false}
+use native.Mathlib.Omega.{arith}
+use Prim.Native.Nat.{ℕ, _^_}
+use Rattle.theory.specs.Units.{ulp}
+use Rattle.number.specs.Numbers.{number}
+use Rattle.number.proofs.Membership.{members, known}
+use Rattle.number.proofs.Values.{member-highest}
+use Rattle.units.proofs.Written.{zero-place, last-power}
+use Rattle.units.proofs.places.last_place.Statement.{statement}
+use Rattle.units.proofs.places.last_place.Tie as tie
+
+returns : tie.Need-returns
+unfolding ulp
+returns c =
+    let s = c .before .before in
+    let k = known (s .pre .0) in
+    zero-place (k .admits) (members _ (k .admits) (s .pre .1)) (ulp (s .args .prepared .format .base) (s .args .prepared .format .digits)) refl (c .if1 .taken)
+
+place-of-requires : tie.Need-place-of-requires
+place-of-requires c κs = search needs
+
+power-number-requires : tie.Need-power-number-requires
+power-number-requires c κs =
+    let s = c .before .before .before in
+    let k = known (s .pre .0) in
+    (s .pre .0, omega (arith, c .place-of .ensures, k .highest, k .admits .digits-low, member-highest (k .admits) (members _ (k .admits) (s .pre .1))))
+
+returns-2 : tie.Need-returns-2
+returns-2 c =
+    let e = c .before .before in
+    let s = e .before .before in
+    let k = known (s .pre .0) in
+    c .power-number .ensures
+    ∙ ap (number (s .args .prepared .format) false)
+    (ap (λ (i : ℕ). s .args .prepared .format .base ^ i) (c .before .place-of .ensures)
+    ∙ last-power (k .admits) (members _ (k .admits) (s .pre .1)) (omega (arith, e .if1 .left)))
+
+pub last-place-spec : {M : Type 1} → statement M
+last-place-spec = tie.close (tie.spec returns place-of-requires power-number-requires returns-2)

@@ -1,0 +1,78 @@
+// The neighbours of a number: the greatest number of the format below it, and the least above it.
+use format::Format;
+use format::Preparation;
+use format::Prepared;
+use number::Answer;
+use number::Number;
+use number::delivery::deliver;
+use number::entry::enter;
+use number::exponents::place_of;
+ghost use mathlib.Core.Path.{_≡_};
+ghost use mathlib.Core.Bool.{true};
+ghost use Prim.Native.Nat.{suc, _-_, _≤_};
+ghost use Rattle.theory.specs.Neighbours.{lower, upper};
+ghost use Rattle.number.specs.Entry.{Usable};
+ghost use Rattle.number.specs.Numbers.{member, magnitude, delivered};
+ghost use Rattle.units.specs.Neighbours.{predecessorOf, successorOf};
+
+// The next greater magnitude, with the sign `negative`. Refuses 5 above the greatest number.
+fn away(prepared: Prepared, x: Number, negative: bool) -> Answer
+    requires { ⌜ Usable prepared × (member (prepared .format) x ≡ true) ⌝ }
+    ensures { λ r. ⌜ r ≡ delivered (prepared .format) negative (upper (prepared .format .base) (prepared .format .digits) (suc (magnitude (prepared .format) x))) ⌝ }
+{
+    let place = place_of(prepared, x);
+    let next = x.significand + 1;
+    if next == prepared.scale.top {
+        return deliver(prepared, negative, prepared.scale.full, place + 1);
+    }
+    deliver(prepared, negative, next, place)
+}
+
+// The next smaller magnitude, with the sign `negative`. Below a power of the base the step is the smaller one.
+fn toward(prepared: Prepared, x: Number, negative: bool) -> Answer
+    requires { ⌜ Usable prepared × (member (prepared .format) x ≡ true) × (1 ≤ x .significand) ⌝ }
+    ensures { λ r. ⌜ r ≡ delivered (prepared .format) negative (lower (prepared .format .base) (prepared .format .digits) (magnitude (prepared .format) x - 1)) ⌝ }
+{
+    let place = place_of(prepared, x);
+    let m = x.significand;
+    if place == 0 {
+        return deliver(prepared, negative, m - 1, place);
+    }
+    if m == prepared.scale.full {
+        return deliver(prepared, negative, prepared.scale.top - 1, place - 1);
+    }
+    deliver(prepared, negative, m - 1, place)
+}
+
+// The greatest number of the format below x. Refuses 1, 3, 5.
+pub fn predecessor(format: Format, x: Number) -> Answer
+    ensures { λ r. ⌜ r ≡ predecessorOf format x ⌝ }
+{
+    match enter(format, x) {
+        Preparation::Refused(why) => Answer::Refused(why),
+        Preparation::Ready(prepared) => {
+            if x.negative {
+                return away(prepared, x, true);
+            }
+            if x.significand == 0 {
+                return away(prepared, x, true);
+            }
+            toward(prepared, x, false)
+        }
+    }
+}
+
+// The least number of the format above x. Refuses 1, 3, 5.
+pub fn successor(format: Format, x: Number) -> Answer
+    ensures { λ r. ⌜ r ≡ successorOf format x ⌝ }
+{
+    match enter(format, x) {
+        Preparation::Refused(why) => Answer::Refused(why),
+        Preparation::Ready(prepared) => {
+            if x.negative {
+                return toward(prepared, x, true);
+            }
+            away(prepared, x, false)
+        }
+    }
+}

@@ -1,0 +1,83 @@
+// The first place, the last place and the place of the least nonzero digit. All three are 0 at 0.
+use crate::powers_of_base::leading_power;
+use crate::powers_of_base::power_number;
+use crate::powers_of_base::trailing_zeros;
+use format::Format;
+use format::Preparation;
+use format::Prepared;
+use number::Answer;
+use number::Number;
+use number::entry::enter;
+use number::exponents::place_of;
+ghost use mathlib.Core.Path.{_≡_};
+ghost use mathlib.Core.Bool.{true, false};
+ghost use Rattle.theory.specs.Units as theory;
+ghost use Rattle.number.specs.Entry.{Usable};
+ghost use Rattle.number.specs.Numbers.{member, magnitude, number};
+ghost use Rattle.units.specs.Places.{firstPlace, lastPlace, leastPlace};
+
+fn first_place(prepared: Prepared, x: Number) -> Number
+    requires { ⌜ Usable prepared × (member (prepared .format) x ≡ true) ⌝ }
+    ensures { λ r. ⌜ r ≡ number (prepared .format) false (theory.ufp (prepared .format .base) (magnitude (prepared .format) x)) ⌝ }
+{
+    let exponent = x.exponent;
+    Number {
+        negative: false,
+        significand: leading_power(prepared.scale, x.significand),
+        exponent: exponent,
+    }
+}
+
+fn last_place(prepared: Prepared, x: Number) -> Number
+    requires { ⌜ Usable prepared × (member (prepared .format) x ≡ true) ⌝ }
+    ensures { λ r. ⌜ r ≡ number (prepared .format) false (theory.ulp (prepared .format .base) (prepared .format .digits) (magnitude (prepared .format) x)) ⌝ }
+{
+    if x.significand == 0 {
+        return x;
+    }
+    power_number(prepared, place_of(prepared, x))
+}
+
+fn least_place(prepared: Prepared, x: Number) -> Number
+    requires { ⌜ Usable prepared × (member (prepared .format) x ≡ true) ⌝ }
+    ensures { λ r. ⌜ r ≡ number (prepared .format) false (theory.uls (prepared .format .base) (magnitude (prepared .format) x)) ⌝ }
+{
+    if x.significand == 0 {
+        return x;
+    }
+    let place = place_of(prepared, x);
+    power_number(
+        prepared,
+        place + trailing_zeros(prepared.scale.base, x.significand),
+    )
+}
+
+// ufp(x), the greatest power of the base not above |x|. Refuses 1, 3.
+pub fn ufp(format: Format, x: Number) -> Answer
+    ensures { λ r. ⌜ r ≡ firstPlace format x ⌝ }
+{
+    match enter(format, x) {
+        Preparation::Refused(why) => Answer::Refused(why),
+        Preparation::Ready(prepared) => Answer::Value(first_place(prepared, x)),
+    }
+}
+
+// ulp(x), base^e. Refuses 1, 3.
+pub fn ulp(format: Format, x: Number) -> Answer
+    ensures { λ r. ⌜ r ≡ lastPlace format x ⌝ }
+{
+    match enter(format, x) {
+        Preparation::Refused(why) => Answer::Refused(why),
+        Preparation::Ready(prepared) => Answer::Value(last_place(prepared, x)),
+    }
+}
+
+// uls(x), the place of the least nonzero digit. Refuses 1, 3.
+pub fn uls(format: Format, x: Number) -> Answer
+    ensures { λ r. ⌜ r ≡ leastPlace format x ⌝ }
+{
+    match enter(format, x) {
+        Preparation::Refused(why) => Answer::Refused(why),
+        Preparation::Ready(prepared) => Answer::Value(least_place(prepared, x)),
+    }
+}
