@@ -10,6 +10,7 @@ pub mod Neighbours
 pub mod Units
 -- the rounding of a magnitude
 pub mod Round
+pub mod Ties
 pub mod Monotone
 pub mod Division
 -- values with a sign
