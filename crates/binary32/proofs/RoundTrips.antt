@@ -1,0 +1,172 @@
+-- What is read is in format 2, every finite pattern but 80000000 (hexadecimal) comes back when it is read and written, and every
+-- number of format 2 when it is written and read.
+use Prim.Native.Nat.{ℕ, zero, suc, _+_, _*_, _-_, _^_, _≤_, _<_}
+use mathlib.Core.Path.{_≡_, refl, ap, ap₂, subst, _∙_}
+use mathlib.Core.Bool.{Bool, true, false, not, _&&_, cond}
+use mathlib.Core.List.{[], _∷_}
+use mathlib.Core.Logic.{⊎-elim, _≢_}
+use native.Mathlib.Omega.{arith}
+use native.Mathlib.Decide.{decLe}
+use lib.Dec.{eqb}
+use borrow.Author.Tests.{eqb-true, ne-eqb, le-leb, lt-leb, leb-true, leb-false}
+use Rattle.theory.specs.Tests.{_and_, unless}
+use Rattle.theory.specs.Wide.{Wide}
+use Rattle.theory.specs.Signed.{signed}
+use Rattle.theory.proofs.Tests.{and-made, unless-passed}
+use Rattle.theory.proofs.Canonical.{canonical-wide}
+use Rattle.format.specs.Published.{binary32}
+use Rattle.format.specs.declared.Refusal.the-variants.{NumberNotInFormat, NotFinite}
+use Rattle.format.proofs.Formats.{positional}
+use Rattle.number.specs.declared.Number.{Number}
+use Rattle.number.specs.declared.Answer.the-variants as answer
+use Rattle.number.specs.Numbers.{member, placeOf, magnitude, value, number, greatest}
+use Rattle.number.specs.Entry.{all, entry, after}
+use Rattle.number.proofs.Membership.{Member, members, member-made}
+use Rattle.number.proofs.Values.{written, place-there, canonical-within, member-canonical, member-highest, number-of, own-sign, number-value, number-member}
+use Rattle.number.proofs.Entries.{entry-made}
+use Rattle.binary32.specs.declared.Pattern.the-variants as pattern
+use Rattle.binary32.specs.Patterns.{signOf, fieldOf, fractionOf, finite, magnitudeRead, numberRead, patternRead, patternOf, patternWritten}
+use Rattle.binary32.proofs.Fields.{binary32-admitted, binary32-limits, significandOf, significand-canonical, magnitude-is, finite-field, number-read}
+
+-- ---- what is read
+-- the pattern n is finite, and x is its number
+pub record Reads (n : ℕ) (x : Number) : Type 0 where
+  pub finite : finite n ≡ true
+  pub is : x ≡ numberRead n
+
+pub reads : (n : ℕ) {x : Number} → patternRead n ≡ answer.Value x → Reads n x
+unfolding patternRead unless
+reads n {x} h = by (finite n) refl h
+  where
+    by : (t : Bool) → finite n ≡ t → unless t (answer.Refused NotFinite) (answer.Value (numberRead n)) ≡ answer.Value x → Reads n x
+    by true e h = record { finite = e; is = cc }
+    by false e h = absurd (let z : _≡_ {A = ℕ} 0 1 = cc in omega arith)
+
+pub read-made : (n : ℕ) → finite n ≡ true → patternRead n ≡ answer.Value (numberRead n)
+unfolding patternRead
+read-made n h = unless-passed _ _ h
+
+-- the magnitude of a finite pattern is one of format 2
+read-wide : (n : ℕ) → Wide 2 24 (magnitudeRead n)
+read-wide n = rw (magnitude-is n) (canonical-wide (positional binary32-limits) (significand-canonical (fieldOf n) {fraction = fractionOf n} (omega arith)))
+
+read-within : (n : ℕ) → finite n ≡ true → magnitudeRead n ≤ greatest binary32
+read-within n h =
+    rw (magnitude-is n)
+    (canonical-within binary32-limits (significand-canonical (fieldOf n) {fraction = fractionOf n} (omega arith)) (omega (arith, finite-field n h)))
+
+module _ (n : ℕ) {x : Number} (r : Reads n x) where
+  pub read-inside : Member binary32 x
+  unfolding numberRead
+  read-inside = rw (r .is) (number-member binary32-limits (read-wide n) (signOf n) (read-within n (r .finite)))
+
+-- what is read is in format 2
+pub read-member : (n : ℕ) {x : Number} → patternRead n ≡ answer.Value x → member binary32 x ≡ true
+read-member n {x} h = member-made x binary32-limits (read-inside n (reads n h))
+
+-- and has the value that its parts say
+pub read-value : (n : ℕ) {x : Number} → patternRead n ≡ answer.Value x → value binary32 x ≡ signed (signOf n) (magnitudeRead n)
+unfolding numberRead
+read-value n h = ap (value binary32) (reads n h .is) ∙ number-value binary32-limits (read-wide n) (signOf n)
+
+-- ---- what is written
+pub written-made : (x : Number) → member binary32 x ≡ true → patternWritten x ≡ pattern.Written (patternOf x)
+unfolding patternWritten all after
+written-made x h = rw (entry-made binary32 [] (x ∷ []) binary32-admitted refl (and-made h refl), after)
+
+-- a number that is not in format 2 is refused by 3
+pub written-refused : (x : Number) → member binary32 x ≡ false → patternWritten x ≡ pattern.Refused NumberNotInFormat
+unfolding patternWritten entry all after unless _and_
+written-refused x h = rw (binary32-admitted, h, _and_)
+
+-- the pattern of a significand at a place
+pattern-at : (s : Bool) (m k : ℕ) → patternOf (written binary32 s m k) ≡ cond (not (eqb m 0) && s) (2 ^ 31) 0 + k * 2 ^ 23 + m
+unfolding patternOf
+pattern-at s m k = rw (place-there _ k)
+
+-- the leading digit adds one to the field
+pub joined : (E F : ℕ) → (E - 1) * 2 ^ 23 + significandOf E F ≡ E * 2 ^ 23 + F
+joined zero F = omega arith
+joined (suc E) F = rw (ne-eqb (suc E) 0 (λ e. omega arith)) (omega arith)
+
+-- ---- read and written
+module _ (n : ℕ) (h : n < 2 ^ 32) (not-minus-zero : n ≢ 2 ^ 31) where
+  abbrev m : ℕ
+  m = significandOf (fieldOf n) (fractionOf n)
+
+  abbrev k : ℕ
+  k = fieldOf n - 1
+
+  sign-back : (b t : Bool) → signOf n ≡ b → eqb m 0 ≡ t → cond (not t && b) (2 ^ 31) 0 + k * 2 ^ 23 + m ≡ n
+  sign-back true true e z =
+      absurd (not-minus-zero (omega (arith, leb-true (2 ^ 31) n e, eqb-true m 0 z, joined (fieldOf n) (fractionOf n))))
+  sign-back true false e z = omega (arith, leb-true (2 ^ 31) n e, joined (fieldOf n) (fractionOf n))
+  sign-back false true e z = omega (arith, leb-false (2 ^ 31) n e, joined (fieldOf n) (fractionOf n))
+  sign-back false false e z = omega (arith, leb-false (2 ^ 31) n e, joined (fieldOf n) (fractionOf n))
+
+  pattern-back : patternOf (numberRead n) ≡ n
+  pattern-back = ap patternOf (number-read n) ∙ pattern-at (signOf n) m k ∙ sign-back (signOf n) (eqb m 0) refl refl
+
+  -- every finite pattern but that of minus zero comes back
+  pub read-written : {x : Number} → patternRead n ≡ answer.Value x → patternWritten x ≡ pattern.Written n
+  read-written {x} r = written-made x (read-member n r) ∙ ap pattern.Written (ap patternOf (reads n r .is) ∙ pattern-back)
+
+-- ---- written and read
+-- the parts of a pattern that is put together
+pub record Parts (s : Bool) (E F n : ℕ) : Type 0 where
+  pub sign : signOf n ≡ s
+  pub field : fieldOf n ≡ E
+  pub fraction : fractionOf n ≡ F
+
+parts : (s : Bool) {E F : ℕ} → E < 2 ^ 8 → F < 2 ^ 23 → Parts s E F (cond s (2 ^ 31) 0 + (E * 2 ^ 23 + F))
+parts true {E} {F} e f = record { sign = le-leb (2 ^ 31) (2 ^ 31 + (E * 2 ^ 23 + F)) (omega arith); field = omega arith; fraction = omega arith }
+parts false {E} {F} e f = record { sign = lt-leb (2 ^ 31) (0 + (E * 2 ^ 23 + F)) (omega arith); field = omega arith; fraction = omega arith }
+
+-- a number with these parts has this magnitude
+module _ {s : Bool} {E F n : ℕ} (p : Parts s E F n) where
+  parts-number : numberRead n ≡ number binary32 s (significandOf E F * 2 ^ (E - 1))
+  unfolding numberRead
+  parts-number = ap₂ (number binary32) (p .sign) (magnitude-is n ∙ rw (p .field, p .fraction))
+
+  parts-finite : E < 255 → finite n ≡ true
+  unfolding finite
+  parts-finite h = rw (p .field, ne-eqb E 255 (λ e. omega arith))
+
+  parts-read : E < 255 → patternRead n ≡ answer.Value (number binary32 s (significandOf E F * 2 ^ (E - 1)))
+  parts-read h = read-made n (parts-finite h) ∙ ap answer.Value parts-number
+
+module _ (x : Number) (i : Member binary32 x) where
+  -- a small number is at place 0
+  flat : x .significand < 2 ^ 23 → placeOf binary32 x ≡ 0
+  flat h = ⊎-elim (λ e. e) (λ l. absurd (omega arith)) (member-canonical binary32-limits i .full)
+
+  small-parts : x .significand < 2 ^ 23 → Parts (x .negative) 0 (x .significand) (patternOf x)
+  unfolding patternOf
+  small-parts h = subst (Parts (x .negative) 0 (x .significand)) (omega (arith, flat h)) (parts (x .negative) {E = 0} (omega arith) h)
+
+  normal-parts : 2 ^ 23 ≤ x .significand → Parts (x .negative) (suc (placeOf binary32 x)) (x .significand - 2 ^ 23) (patternOf x)
+  unfolding patternOf
+  normal-parts h =
+      subst (Parts (x .negative) (suc (placeOf binary32 x)) (x .significand - 2 ^ 23)) (omega arith)
+      (parts (x .negative) {E = suc (placeOf binary32 x)} {F = x .significand - 2 ^ 23} (omega (arith, member-highest binary32-limits i)) (omega (arith, i .significand-high)))
+
+  parts-back : {E F : ℕ} → Parts (x .negative) E F (patternOf x) → E < 255 → significandOf E F * 2 ^ (E - 1) ≡ magnitude binary32 x
+      → patternRead (patternOf x) ≡ answer.Value x
+  parts-back p h e =
+      parts-read p h
+      ∙ ap answer.Value (ap (number binary32 (x .negative)) e ∙ number-of binary32-limits i (x .negative) ∙ own-sign binary32-limits i)
+
+  back : patternRead (patternOf x) ≡ answer.Value x
+  unfolding magnitude
+  back = by (decLe (2 ^ 23) (x .significand))
+    where
+      by : Dec (2 ^ 23 ≤ x .significand) → patternRead (patternOf x) ≡ answer.Value x
+      by (yes h) =
+          let whole : 2 ^ 23 + (x .significand - 2 ^ 23) ≡ x .significand = omega arith in
+          let place : suc (placeOf binary32 x) - 1 ≡ placeOf binary32 x = omega arith in
+          parts-back (normal-parts h) (omega (arith, member-highest binary32-limits i)) (rw (ne-eqb (suc (placeOf binary32 x)) 0 (λ e. omega arith), whole, place))
+      by (no h) = parts-back (small-parts (omega arith)) (omega arith) (rw (flat (omega arith)))
+
+-- every number of format 2 comes back
+pub written-read : (x : Number) → member binary32 x ≡ true → patternRead (patternOf x) ≡ answer.Value x
+written-read x h = back x (members x binary32-limits h)

@@ -1,0 +1,82 @@
+-- Reading is that of lib.Ieee, the kit's own account of IEEE 754.
+use Prim.Native.Nat.{ℕ, zero, suc, _-_, _/_, _%_, _^_, _<_}
+use mathlib.Core.Path.{_≡_, refl, sym, ap, subst, _∙_}
+use mathlib.Core.Bool.{Bool, true, false, cond}
+use mathlib.Core.Logic.{_≢_}
+use native.Mathlib.Omega.{arith}
+use lib.Dec.{eqb}
+use lib.Ieee as ieee
+use lib.Ieee.{Float, nan, inf, odd, ofBits, ofFields}
+use lib.Ieee.Exact.{HasValue, odd-sign}
+use lib.Ieee.Scale as scale
+use borrow.Author.Tests.{ne-eqb, lt-leb}
+use Rattle.format.specs.Published.{binary32}
+use Rattle.number.specs.declared.Number.{Number}
+use Rattle.number.specs.declared.Answer.the-variants.{Value}
+use Rattle.number.specs.Numbers.{placeOf}
+use Rattle.number.proofs.Values.{written, place-there}
+use Rattle.binary32.specs.Patterns.{signOf, fieldOf, fractionOf, finite, magnitudeRead, patternRead}
+use Rattle.binary32.proofs.Fields.{significandOf, magnitude-is, number-read, finite-field, endless-field}
+use Rattle.binary32.proofs.RoundTrips.{reads, joined}
+
+-- lib.Ieee takes a pattern apart as we do
+parts-standard : (n : ℕ) → ofBits ieee.binary32 n ≡ ofFields ieee.binary32 (signOf n) (fieldOf n) (fractionOf n)
+unfolding ofBits
+parts-standard n = let field : n % 2 ^ 31 / 2 ^ 23 ≡ fieldOf n = omega arith in rw field
+
+-- and makes a float of a field that is not 255
+fields-standard : (s : Bool) (E F : ℕ) → E < 255 → ofFields ieee.binary32 s E F ≡ odd 24 s (significandOf E F) (E - 1) 149
+unfolding ofFields
+fields-standard s zero F h = refl
+fields-standard s (suc E) F h =
+    let place : suc E - 1 ≡ E = omega arith in
+    rw (ne-eqb (suc E) 255 (λ e. omega arith), ne-eqb (suc E) 0 (λ e. omega arith), place)
+
+pub bits-standard : (n : ℕ) → finite n ≡ true → ofBits ieee.binary32 n ≡ odd 24 (signOf n) (significandOf (fieldOf n) (fractionOf n)) (fieldOf n - 1) 149
+bits-standard n h = parts-standard n ∙ fields-standard (signOf n) (fieldOf n) (fractionOf n) (finite-field n h)
+
+-- a finite pattern's float has the value that we read
+pub value-standard : (n : ℕ) → finite n ≡ true → HasValue (ofBits ieee.binary32 n) (signOf n) (magnitudeRead n) (2 ^ 149)
+value-standard n h =
+    subst (λ (x : Float). HasValue x (signOf n) (magnitudeRead n) (2 ^ 149)) (sym (bits-standard n h))
+    (subst (λ (v : ℕ). HasValue (odd 24 (signOf n) (significandOf (fieldOf n) (fractionOf n)) (fieldOf n - 1) 149) (signOf n) v (2 ^ 149)) (sym (magnitude-is n))
+    (odd-sign 24 (signOf n) (significandOf (fieldOf n) (fractionOf n)) (fieldOf n - 1) 149))
+
+-- every other pattern is an infinity or NaN there too
+odd-finite : (d : ℕ) (s : Bool) (q k l : ℕ) → scale.finite (odd d s q k l) ≡ true
+unfolding odd
+odd-finite d s zero k l = refl
+odd-finite d s (suc q) k l = refl
+
+pub finite-standard : (n : ℕ) → scale.finite (ofBits ieee.binary32 n) ≡ finite n
+unfolding ofFields
+finite-standard n = by (finite n) refl
+  where
+    endless : (s zero : Bool) → scale.finite (cond zero (inf s) nan) ≡ false
+    endless s true = refl
+    endless s false = refl
+
+    by : (t : Bool) → finite n ≡ t → scale.finite (ofBits ieee.binary32 n) ≡ t
+    by true h = ap scale.finite (bits-standard n h) ∙ odd-finite 24 (signOf n) (significandOf (fieldOf n) (fractionOf n)) (fieldOf n - 1) 149
+    by false h =
+        ap scale.finite (parts-standard n ∙ ap (λ (E : ℕ). ofFields ieee.binary32 (signOf n) E (fractionOf n)) (endless-field n h))
+        ∙ endless (signOf n) (eqb (fractionOf n) 0)
+
+-- ---- the float that a number of format 2 is
+unfoldable pub floatOf : Number → Float
+floatOf x = odd 24 (x .negative) (x .significand) (placeOf binary32 x) 149
+
+float-at : (s : Bool) (m k : ℕ) → (m ≡ 0 → s ≡ false) → floatOf (written binary32 s m k) ≡ odd 24 s m k 149
+unfolding floatOf
+float-at s zero k h = rw (h refl, place-there _ k)
+float-at s (suc m) k h = rw (ne-eqb (suc m) 0 (λ e. omega arith), place-there _ k)
+
+-- every finite pattern but that of minus zero is the float of the number that we read
+pub float-standard : (n : ℕ) {x : Number} → n < 2 ^ 32 → n ≢ 2 ^ 31 → patternRead n ≡ Value x → ofBits ieee.binary32 n ≡ floatOf x
+float-standard n {x} h not-minus-zero r =
+    bits-standard n (reads n r .finite)
+    ∙ sym (float-at (signOf n) (significandOf (fieldOf n) (fractionOf n)) (fieldOf n - 1) plus)
+    ∙ ap floatOf (sym (number-read n) ∙ sym (reads n r .is))
+  where
+    plus : significandOf (fieldOf n) (fractionOf n) ≡ 0 → signOf n ≡ false
+    plus z = lt-leb (2 ^ 31) n (omega (arith, joined (fieldOf n) (fractionOf n), not-minus-zero))

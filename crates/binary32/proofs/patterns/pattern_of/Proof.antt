@@ -1,0 +1,70 @@
+-- `binary32::patterns::pattern_of` meets its contract: the place is at most 253.
+use borrow.Author.Needs.{needs}
+use Prim.Native.Nat.{_^_, _≤_, _<_}
+use mathlib.Core.Path.{_≡_, ap, _∙_}
+use mathlib.Core.Bool.{Bool, true, false, cond}
+use native.Mathlib.Omega.{arith}
+use lib.IntN.{ℤ, negsuc, natAbs, _-ℤ_}
+use mir.Syntax.{w32}
+use mir.Val.{SFits}
+use Rattle.format.specs.Published.{binary32}
+use Rattle.format.proofs.Signed.{back}
+use Rattle.format.proofs.Formats.{exponents-made}
+use Rattle.number.specs.Numbers.{placeOf}
+use Rattle.number.proofs.Membership.{Member, members}
+use Rattle.number.proofs.Values.{member-highest}
+use Rattle.binary32.specs.Patterns.{patternOf}
+use Rattle.binary32.proofs.Fields.{binary32-limits}
+use Rattle.binary32.proofs.patterns.pattern_of.Statement.{statement}
+use Rattle.binary32.proofs.patterns.pattern_of.Tie as tie
+
+exponent-fits : (c : tie.Start) → SFits w32 (c .args .x .exponent)
+exponent-fits c = search needs
+
+inside : (c : tie.Start) → Member binary32 (c .args .x)
+inside c = members (c .args .x) binary32-limits (c .pre)
+
+-- what was called for is the number's place
+place-is : (c : tie.After-distance) → c .distance .result ≡ placeOf binary32 (c .before .before .args .x)
+place-is c = c .distance .ensures ∙ ap (λ (e : ℤ). natAbs (e -ℤ negsuc 148)) (back (exponent-fits (c .before .before)))
+
+place-most : (c : tie.After-distance) → c .distance .result ≤ 253
+place-most c = omega (arith, place-is c, member-highest binary32-limits (inside (c .before .before)))
+
+significand-most : (c : tie.Start) → c .args .x .significand < 2 ^ 24
+significand-most c = inside c .significand-high
+
+sign-is : (c : tie.After-sign-weight) → c .sign-weight .result ≡ cond (c .before .before .before .args .x .negative) (2 ^ 31) 0
+sign-is c = c .sign-weight .ensures
+
+sign-most : (s : Bool) → cond s (2 ^ 31) 0 ≤ 2 ^ 31
+sign-most true = omega arith
+sign-most false = omega arith
+
+distance-requires : tie.Need-distance-requires
+distance-requires c κs =
+    let i = inside (c .before) in
+    rw (back (exponent-fits (c .before))) (exponents-made (record { emin-low = omega arith; emin-emax = i .exponent-low; emax-high = omega (arith, i .exponent-high) }))
+
+sign-weight-requires : tie.Need-sign-weight-requires
+sign-weight-requires c κs = search needs
+
+mul-result : tie.Need-mul-result
+mul-result c = record { fits = omega (arith, place-most (c .before)) }
+
+add-result : tie.Need-add-result
+add-result c = let d = c .before in record { fits = omega (arith, sign-is c, sign-most (d .before .before .args .x .negative), place-most d) }
+
+add-result-2 : tie.Need-add-result-2
+add-result-2 c =
+    let d = c .before in
+    record { fits = omega (arith, sign-is c, sign-most (d .before .before .args .x .negative), place-most d, significand-most (d .before .before)) }
+
+returns : tie.Need-returns
+unfolding patternOf
+returns c = omega (arith, sign-is c, place-is (c .before))
+
+pub pattern-of-spec : {M : Type 1} → statement M
+pattern-of-spec =
+    tie.close
+    (tie.spec distance-requires sign-weight-requires mul-result add-result add-result-2 returns)

@@ -1,0 +1,29 @@
+-- `binary32::patterns::read_pattern` meets its contract.
+use borrow.Author.Needs.{needs}
+use mathlib.Core.Path.{_≡_, sym, ap, _∙_}
+use borrow.Author.Tests.{eq-eqb, ne-eqb}
+use Rattle.theory.proofs.Tests.{unless-passed, unless-failed}
+use Rattle.number.specs.declared.Answer.the-variants.{Value}
+use Rattle.binary32.specs.Patterns.{fieldOf, finite, patternRead}
+use Rattle.binary32.proofs.patterns.read_pattern.Statement.{statement}
+use Rattle.binary32.proofs.patterns.read_pattern.Tie as tie
+
+field-of-requires : tie.Need-field-of-requires
+field-of-requires c κs = search needs
+
+returns : tie.Need-returns
+unfolding patternRead finite
+returns c =
+    let e : fieldOf (c .before .before .args .pattern) ≡ 255 = sym (c .before .field-of .ensures) ∙ c .if1 .taken in
+    sym (unless-failed _ _ (rw (eq-eqb _ _ e)))
+
+read-finite-requires : tie.Need-read-finite-requires
+unfolding finite
+read-finite-requires c κs = rw (ne-eqb (fieldOf (c .before .before .args .pattern)) 255 (λ e. c .if1 .left (c .before .field-of .ensures ∙ e)))
+
+returns-2 : tie.Need-returns-2
+unfolding patternRead
+returns-2 c = ap Value (c .read-finite .ensures) ∙ sym (unless-passed _ _ (read-finite-requires (c .before) tt))
+
+pub read-pattern-spec : {M : Type 1} → statement M
+read-pattern-spec = tie.close (tie.spec field-of-requires returns read-finite-requires returns-2)

@@ -1,0 +1,2 @@
+-- binary32 patterns, and what the calls of this crate answer.
+pub mod Patterns

@@ -1,0 +1,54 @@
+-- binary32 patterns: what a pattern stands for, as an exact value in units of 2 ^ -149, and how a number is written.
+use Prim.Native.Nat.{ℕ, _+_, _*_, _-_, _/_, _%_, _^_}
+use mathlib.Core.Bool.{Bool, not, cond}
+use mathlib.Core.List.{[], _∷_}
+use lib.Dec.{eqb, leb}
+use Rattle.theory.specs.Tests.{unless}
+use Rattle.format.specs.declared.Refusal.the-variants.{NotFinite}
+use Rattle.format.specs.Published.{binary32}
+use Rattle.number.specs.declared.Number.{Number}
+use Rattle.number.specs.declared.Answer.{Answer}
+use Rattle.number.specs.declared.Answer.the-variants as answer
+use Rattle.number.specs.Numbers.{placeOf, number}
+use Rattle.number.specs.Entry.{entry, after}
+use Rattle.binary32.specs.declared.Pattern.{Pattern}
+use Rattle.binary32.specs.declared.Pattern.the-variants as pattern
+
+-- ---- the parts of a pattern of 32 bits
+-- the sign bit, the highest
+abbrev pub signOf : ℕ → Bool
+signOf n = leb (2 ^ 31) n
+
+-- the exponent field, the next 8 bits
+abbrev pub fieldOf : ℕ → ℕ
+fieldOf n = n / 2 ^ 23 % 2 ^ 8
+
+-- the fraction, the lowest 23 bits
+abbrev pub fractionOf : ℕ → ℕ
+fractionOf n = n % 2 ^ 23
+
+-- ---- reading
+-- neither an infinity nor NaN
+unfoldable pub finite : ℕ → Bool
+finite n = not (eqb (fieldOf n) 255)
+
+-- the magnitude in units of 2 ^ -149
+unfoldable pub magnitudeRead : ℕ → ℕ
+magnitudeRead n = cond (eqb (fieldOf n) 0) (fractionOf n) ((2 ^ 23 + fractionOf n) * 2 ^ (fieldOf n - 1))
+
+-- the number that a finite pattern stands for; zero is plus, so that 80000000 (hexadecimal) is zero too
+unfoldable pub numberRead : ℕ → Number
+numberRead n = number binary32 (signOf n) (magnitudeRead n)
+
+-- the answer of read_pattern
+unfoldable pub patternRead : ℕ → Answer
+patternRead n = unless (finite n) (answer.Refused NotFinite) (answer.Value (numberRead n))
+
+-- ---- writing
+-- sign, place and significand; the leading digit of a normal number adds one to the field
+unfoldable pub patternOf : Number → ℕ
+patternOf x = cond (x .negative) (2 ^ 31) 0 + placeOf binary32 x * 2 ^ 23 + x .significand
+
+-- the answer of write_pattern
+unfoldable pub patternWritten : Number → Pattern
+patternWritten x = after (entry binary32 [] (x ∷ [])) pattern.Refused (pattern.Written (patternOf x))

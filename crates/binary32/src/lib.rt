@@ -1,0 +1,11 @@
+// binary32 patterns, laid out as in IEEE 754: a sign bit, an exponent field of 8 bits, a fraction of 23 bits.
+pub mod patterns;
+pub mod prepared;
+
+use format::Refusal;
+
+// A pattern, or why there is none.
+pub enum Pattern {
+    Written(u32),
+    Refused(Refusal),
+}

@@ -1,0 +1,89 @@
+// A pattern read as a number of published format 2, and a number written as a pattern.
+use crate::Pattern;
+use crate::prepared::prepared_binary32;
+use format::Preparation;
+use format::Refusal;
+use format::Significand;
+use format::admission::distance;
+use number::Answer;
+use number::Number;
+use number::delivery::number_at;
+use number::entry::with_number;
+ghost use mathlib.Core.Path.{_≡_};
+ghost use mathlib.Core.Bool.{true, cond};
+ghost use Prim.Native.Nat.{_+_, _-_, _<_, _^_};
+ghost use lib.Dec.{eqb};
+ghost use Rattle.format.specs.Published.{binary32};
+ghost use Rattle.number.specs.Numbers.{member};
+ghost use Rattle.binary32.specs.Patterns.{fieldOf, finite, numberRead, patternRead, patternOf, patternWritten};
+
+// Eight bits of the exponent.
+fn field_of(pattern: u32) -> u32
+    ensures { λ r. ⌜ r ≡ fieldOf pattern ⌝ }
+{
+    pattern / 8388608 % 256
+}
+
+// The place that a field stands for: 0 and 1 both stand for the lowest.
+fn place_of(field: u32) -> u32
+    ensures { λ r. ⌜ r ≡ field - 1 ⌝ }
+{
+    if field == 0 { 0 } else { field - 1 }
+}
+
+// The fraction, with its leading digit unless the field is 0.
+fn significand_of(field: u32, fraction: u32) -> Significand
+    requires { ⌜ fraction < 2 ^ 23 ⌝ }
+    ensures { λ r. ⌜ r ≡ cond (eqb field 0) fraction (2 ^ 23 + fraction) ⌝ }
+{
+    let leading = 8388608 + fraction;
+    if field == 0 { fraction } else { leading }
+}
+
+// The number that a finite pattern stands for.
+pub fn read_finite(pattern: u32) -> Number
+    requires { ⌜ finite pattern ≡ true ⌝ }
+    ensures { λ r. ⌜ r ≡ numberRead pattern ⌝ }
+{
+    let field = field_of(pattern);
+    let significand = significand_of(field, pattern % 8388608);
+    let negative = 2147483648 <= pattern;
+    number_at(prepared_binary32(), negative, significand, place_of(field))
+}
+
+// The number that a pattern stands for. Refuses 9.
+pub fn read_pattern(pattern: u32) -> Answer
+    ensures { λ r. ⌜ r ≡ patternRead pattern ⌝ }
+{
+    if field_of(pattern) == 255 {
+        return Answer::Refused(Refusal::NotFinite);
+    }
+    Answer::Value(read_finite(pattern))
+}
+
+// The sign bit, the highest.
+fn sign_weight(negative: bool) -> u32
+    ensures { λ r. ⌜ r ≡ cond negative (2 ^ 31) 0 ⌝ }
+{
+    if negative { 2147483648 } else { 0 }
+}
+
+// The pattern of a number of the format: the significand's leading digit adds one to the field.
+pub fn pattern_of(x: Number) -> u32
+    requires { ⌜ member binary32 x ≡ true ⌝ }
+    ensures { λ r. ⌜ r ≡ patternOf x ⌝ }
+{
+    let place = distance(-149, x.exponent);
+    let significand = x.significand;
+    sign_weight(x.negative) + place * 8388608 + significand
+}
+
+// The pattern of a number. Refuses 3.
+pub fn write_pattern(x: Number) -> Pattern
+    ensures { λ r. ⌜ r ≡ patternWritten x ⌝ }
+{
+    match with_number(Preparation::Ready(prepared_binary32()), x) {
+        Preparation::Refused(why) => Pattern::Refused(why),
+        Preparation::Ready(_) => Pattern::Written(pattern_of(x)),
+    }
+}
