@@ -1,0 +1,190 @@
+-- The rounding of lib.Ieee, the kit's own account of IEEE 754, is the theory's to nearest with ties to even in format 2: an infinity
+-- where the rounded magnitude exceeds the greatest number, and otherwise the float that has its value.
+use Prim.Native.Nat.{ℕ, suc, _+_, _*_, _-_, _/_, _%_, _^_, _≤_, _<_, compare, Ordering, Ordering·lt, Ordering·eq, Ordering·gt}
+use mathlib.Core.Path.{_≡_, refl, sym, ap, ap₂, subst, _∙_}
+use mathlib.Core.Bool.{Bool, true, false, not, cond}
+use mathlib.Core.Logic.{_≢_}
+use native.Mathlib.Nat.{le-antisymm, lt-of-lt-of-le, mul-div-cancel, mul-pos}
+use native.Mathlib.Decide.{ℕ-discrete}
+use native.Mathlib.Omega.{arith}
+use lib.Dec.{T, isLe, isEq, eqb, leb, ltb, leb→le, nleb→lt, eqb→eq}
+use lib.IntN.{ℤ, natAbs}
+use mir.Facts.{eqb-no}
+use borrow.Author.Tests.{ltb-true, ltb-false, eq-eqb, ne-eqb, le-leb, lt-leb}
+use lib.Ieee as ieee
+use lib.Ieee.{Float, nan, inf, fin, up, down, size, nearest, odd, units}
+use lib.Ieee.Digits.{size-lt, size-le}
+use lib.Ieee.Exact.{HasValue, odd-sign}
+use lib.Ieee.Fits.{round-is, down-pos}
+use lib.Ieee.Nearest.{closest, closest-same, div-same}
+use Rattle.theory.specs.Place.{Positional, place, step}
+use Rattle.theory.specs.Tests.{unless}
+use Rattle.theory.specs.Wide.{Wide}
+use Rattle.theory.specs.Round.{Direction, nearest-even, Location, chosen, takes-upper, round}
+use Rattle.theory.specs.Signed.{signed, roundZ}
+use Rattle.theory.proofs.Tests.{unless-passed, unless-failed}
+use Rattle.theory.proofs.Powers.{pow-pos, pow-mono}
+use Rattle.theory.proofs.Place.{step-pos, place-le, place-fits}
+use Rattle.theory.proofs.Canonical.{canonical-of, canonical-value}
+use Rattle.theory.proofs.Round.{Located, at-lower, under, middle, over, location-found, round-wide}
+use Rattle.theory.proofs.Division.{divided, round-divided}
+use Rattle.theory.proofs.Integers.{size-signed}
+use Rattle.theory.proofs.Signed.{roundZ-signed}
+use Rattle.format.specs.declared.Refusal.the-variants.{TooLarge, NotFinite}
+use Rattle.format.specs.Published.{binary32}
+use Rattle.format.proofs.Formats.{positional}
+use Rattle.number.specs.declared.Number.{Number}
+use Rattle.number.specs.declared.Answer.{Answer}
+use Rattle.number.specs.declared.Answer.the-variants.{Value, Refused}
+use Rattle.number.specs.Numbers.{number, greatest, delivered}
+use Rattle.number.proofs.Values.{canonical-within, number-same}
+use Rattle.binary32.proofs.Fields.{binary32-limits}
+
+-- the answer that a float of lib.Ieee stands for: zero is plus, and an infinity is a result too large
+unfoldable pub answered : Float → Answer
+answered nan = Refused NotFinite
+answered (inf s) = Refused TooLarge
+answered (fin s m e) = Value (number binary32 s (m * up e * 2 ^ 149 / down e))
+
+-- by its value
+pub answered-value : (x : Float) (s : Bool) (n : ℕ) → HasValue x s n (2 ^ 149) → answered x ≡ Value (number binary32 s n)
+unfolding answered
+answered-value nan s n h = absurd h
+answered-value (inf t) s n h = absurd h
+answered-value (fin t m e) s n h = rw (h .0, h .1, mul-div-cancel n (down-pos e))
+
+-- ---- the place by the number of binary digits
+two : Positional 2 24
+two = positional binary32-limits
+
+size-place : (n : ℕ) → size n - 24 ≡ place 2 24 n
+size-place n =
+    le-antisymm (omega (arith, size-le n (24 + place 2 24 n) (place-fits two n)))
+    (place-le two (omega (arith, size-lt n, pow-mono {β = 2} (omega arith) {i = size n} {j = 24 + (size n - 24)} (omega arith))))
+
+-- ---- a fraction to the nearest whole number, a tie to the even one
+data Compared (a b : ℕ) : Ordering → Type 0 where
+  less : a < b → Compared a b Ordering·lt
+  same : a ≡ b → Compared a b Ordering·eq
+  more : b < a → Compared a b Ordering·gt
+
+compared : (a b : ℕ) → Compared a b (compare a b)
+compared a b = by (compare a b) (leb→le a b) (nleb→lt a b) (eqb→eq a b) (λ t. eqb-no t)
+  where
+    by : (o : Ordering) → (T (isLe o) → a ≤ b) → (T (not (isLe o)) → b < a) → (T (isEq o) → a ≡ b) → (T (not (isEq o)) → a ≢ b) → Compared a b o
+    by Ordering·lt l g e n = less (omega (arith, l tt, n tt))
+    by Ordering·eq l g e n = same (e tt)
+    by Ordering·gt l g e n = more (g tt)
+
+-- n steps and a remainder r of a step of u
+module _ (negative : Bool) (n r u s : ℕ) (pos : 1 ≤ u) where
+  abbrev choice : Location → ℕ
+  choice c = cond (takes-upper nearest-even negative (eqb (n % 2) 1) c) (suc n * s) (n * s)
+
+  tie : (n + n % 2) * s ≡ cond (eqb (n % 2) 1) (suc n * s) (n * s)
+  tie = by (ℕ-discrete (n % 2) 1)
+    where
+      by : Dec (n % 2 ≡ 1) → (n + n % 2) * s ≡ cond (eqb (n % 2) 1) (suc n * s) (n * s)
+      by (yes e) = rw (eq-eqb (n % 2) 1 e, e) (omega arith)
+      by (no h) = let e : n % 2 ≡ 0 = omega arith in rw (ne-eqb (n % 2) 1 h, e) (omega arith)
+
+  steps-nearest : {o : Ordering} {c : Location} → Compared (r * 2) u o → Located r u 0 1 c → nearest n o * s ≡ choice c
+  unfolding takes-upper chosen
+  steps-nearest (less h) (at-lower e) = refl
+  steps-nearest (less h) (under e m) = refl
+  steps-nearest (less h) (middle e m) = absurd (omega arith)
+  steps-nearest (less h) (over e m) = absurd (omega arith)
+  steps-nearest (same h) (at-lower e) = absurd (omega arith)
+  steps-nearest (same h) (under e m) = absurd (omega arith)
+  steps-nearest (same h) (middle e m) = tie
+  steps-nearest (same h) (over e m) = absurd (omega arith)
+  steps-nearest (more h) (at-lower e) = absurd (omega arith)
+  steps-nearest (more h) (under e m) = absurd (omega arith)
+  steps-nearest (more h) (middle e m) = absurd (omega arith)
+  steps-nearest (more h) (over e m) = refl
+
+-- lib.Ieee's nearest multiple of the step is the theory's rounding
+closest-round : (negative : Bool) (N : ℕ) {D : ℕ} → 1 ≤ D
+    → closest N (D * step 2 24 (N / D)) * step 2 24 (N / D) ≡ round 2 24 nearest-even negative N D
+closest-round negative N {D} hD =
+    let w = step 2 24 (N / D) in
+    let u : ℕ = D * w in
+    steps-nearest negative (N / u) (N % u) u w (mul-pos hD (step-pos two (N / D))) (compared (N % u * 2) u) (location-found (N % u) u 0 1)
+    ∙ sym (round-divided two (divided two N hD) nearest-even negative)
+
+-- ---- the greatest number
+within : {n : ℕ} → Wide 2 24 n → n < 2 ^ 277 → n ≤ greatest binary32
+unfolding step
+within {n} w h =
+    subst (λ (v : ℕ). v ≤ greatest binary32) (canonical-value two w)
+    (canonical-within binary32-limits (canonical-of two n) (place-le two h))
+
+beyond : {n : ℕ} → 2 ^ 277 ≤ n → greatest binary32 < n
+unfolding greatest
+beyond h = lt-of-lt-of-le (ltb-true (greatest binary32) (2 ^ 277) refl) h
+
+module _ (s : Bool) {n : ℕ} where
+  delivered-below : Wide 2 24 n → n < 2 ^ 277 → delivered binary32 s n ≡ Value (number binary32 s n)
+  unfolding delivered
+  delivered-below w h = unless-passed _ _ (le-leb _ _ (within w h))
+
+  delivered-beyond : 2 ^ 277 ≤ n → delivered binary32 s n ≡ Refused TooLarge
+  unfolding delivered
+  delivered-beyond h = unless-failed _ _ (lt-leb _ _ (beyond h))
+
+-- ---- num / den is N / D units of 2 ^ -149
+pub record Exact (num den N D : ℕ) : Type 0 where
+  pub divisor : 1 ≤ den
+  pub divisor′ : 1 ≤ D
+  pub cross : num * 2 ^ 149 * D ≡ N * den
+
+-- a common factor
+scaled : (n den N D w : ℕ) → n * D ≡ N * den → n * (D * w) ≡ N * (den * w)
+scaled n den N D w e = omega (arith, ap (λ (v : ℕ). v * w) e)
+
+module _ (s : Bool) {num den N D : ℕ} (e : Exact num den N D) where
+  abbrev k : ℕ
+  k = place 2 24 (N / D)
+
+  abbrev q : ℕ
+  q = closest N (D * 2 ^ k)
+
+  round-units : ieee.round ieee.binary32 s num den ≡ units ieee.binary32 s q k
+  round-units =
+      round-is ieee.binary32 s num den
+      ∙ ap (λ (j : ℕ). units ieee.binary32 s (closest (num * 2 ^ 149) (den * 2 ^ j)) j)
+      (ap (λ (n : ℕ). size n - 24) (div-same (num * 2 ^ 149) den N D (e .divisor) (e .divisor′) (e .cross)) ∙ size-place (N / D))
+      ∙ ap (λ (n : ℕ). units ieee.binary32 s n k)
+      (closest-same (num * 2 ^ 149) (den * 2 ^ k) N (D * 2 ^ k) (mul-pos (e .divisor) (pow-pos (omega arith) k)) (mul-pos (e .divisor′) (pow-pos (omega arith) k))
+      (scaled (num * 2 ^ 149) den N D (2 ^ k) (e .cross)))
+
+  rounded : q * 2 ^ k ≡ round 2 24 nearest-even s N D
+  unfolding step
+  rounded = closest-round s N (e .divisor′)
+
+  abbrev R : ℕ
+  R = round 2 24 nearest-even s N D
+
+  pub round-standard : answered (ieee.round ieee.binary32 s num den) ≡ delivered binary32 s (round 2 24 nearest-even s N D)
+  unfolding units answered
+  round-standard = ap answered round-units ∙ by (ltb (q * 2 ^ k) (2 ^ 277)) refl
+    where
+      by : (t : Bool) → ltb (q * 2 ^ k) (2 ^ 277) ≡ t → answered (cond t (odd 25 s q k 149) (inf s)) ≡ delivered binary32 s R
+      by true l =
+          answered-value (odd 25 s q k 149) s (q * 2 ^ k) (odd-sign 25 s q k 149) ∙ ap (λ (n : ℕ). Value (number binary32 s n)) rounded
+          ∙ sym (delivered-below s (round-wide two N (e .divisor′) nearest-even s) (subst (λ (n : ℕ). n < 2 ^ 277) rounded (ltb-true (q * 2 ^ k) (2 ^ 277) l)))
+      by false l = sym (delivered-beyond s (subst (λ (n : ℕ). 2 ^ 277 ≤ n) rounded (ltb-false (q * 2 ^ k) (2 ^ 277) l)))
+
+-- ---- the answer depends on the exact value alone, and not on a sign of zero
+pub delivered-same : (d : Direction) (s t : Bool) (m n : ℕ) {D : ℕ} → 1 ≤ D → signed s m ≡ signed t n
+    → delivered binary32 s (round 2 24 d s m D) ≡ delivered binary32 t (round 2 24 d t n D)
+unfolding delivered
+delivered-same d s t m n {D} hD e =
+    ap₂ (λ (r : ℕ) (x : Number). unless (leb r (greatest binary32)) (Refused TooLarge) (Value x)) magnitudes
+    (number-same binary32 s t (round 2 24 d s m D) (round 2 24 d t n D) values)
+  where
+    values : signed s (round 2 24 d s m D) ≡ signed t (round 2 24 d t n D)
+    values = sym (roundZ-signed two hD d s m) ∙ ap (λ (v : ℤ). roundZ 2 24 d v D) e ∙ roundZ-signed two hD d t n
+
+    magnitudes : round 2 24 d s m D ≡ round 2 24 d t n D
+    magnitudes = sym (size-signed s (round 2 24 d s m D)) ∙ ap natAbs values ∙ size-signed t (round 2 24 d t n D)

@@ -1,0 +1,141 @@
+-- The sum and the difference of finite patterns to nearest, ties to even, are those of lib.Ieee.
+use Prim.Native.Nat.{ℕ, _+_, _*_, _-_, _^_, _≤_}
+use mathlib.Core.Path.{_≡_, refl, sym, ap, ap₂, _∙_}
+use mathlib.Core.Bool.{Bool, true, false, not, _&&_, cond}
+use native.Mathlib.Nat.{mul-sub, mul-comm, mul-le-mul-right, mul-pos}
+use native.Mathlib.Decide.{decLe}
+use native.Mathlib.Omega.{arith}
+use lib.Dec.{ltb}
+use lib.IntN.{ℤ, natAbs, negℤ, _+ℤ_, _-ℤ_, +ℤ-comm}
+use borrow.Author.Tests.{ltb-true, ltb-false}
+use lib.Ieee as ieee
+use lib.Ieee.{Float, nan, inf, fin, up, down, sum, add, sub, neg, ofBits}
+use lib.Ieee.Exact.{HasValue}
+use lib.Ieee.Fits.{down-pos}
+use Rattle.theory.specs.Round.{nearest-even, round}
+use Rattle.theory.specs.Signed.{signed, is-negative}
+use Rattle.theory.proofs.Integers.{own-sign, add-agree, add-differ, negate-signed}
+use Rattle.format.specs.Published.{binary32}
+use Rattle.number.specs.declared.Number.{Number}
+use Rattle.number.specs.declared.Answer.{Answer}
+use Rattle.number.specs.declared.Answer.the-variants.{Value}
+use Rattle.number.specs.Numbers.{value, delivered}
+use Rattle.binary32.specs.Patterns.{signOf, magnitudeRead, patternRead}
+use Rattle.binary32.proofs.RoundTrips.{reads, read-value}
+use Rattle.binary32.proofs.Standard.{value-standard}
+use Rattle.binary32.proofs.StandardRound.{answered, round-standard, delivered-same}
+
+-- the exact value v in units of 2 ^ -149, rounded to nearest with ties to even
+abbrev pub nearestOf : ℤ → Answer
+nearestOf v = delivered binary32 (is-negative v) (round 2 24 nearest-even (is-negative v) (natAbs v) 1)
+
+nearest-signed : (s : Bool) (n : ℕ) (v : ℤ) → signed s n ≡ v → delivered binary32 s (round 2 24 nearest-even s n 1) ≡ nearestOf v
+nearest-signed s n v e = delivered-same nearest-even s (is-negative v) n (natAbs v) (omega arith) (e ∙ sym (own-sign v))
+
+-- ---- a / c and b / c are A and B units of 1 / w
+record Pair (w a b c A B : ℕ) : Type 0 where
+  divisor : 1 ≤ c
+  left : a * w ≡ A * c
+  right : b * w ≡ B * c
+
+sub-mul : (m n k : ℕ) → (m - n) * k ≡ m * k - n * k
+sub-mul m n k = mul-comm (m - n) k ∙ mul-sub k m n ∙ omega arith
+
+module _ {w a b c A B : ℕ} (p : Pair w a b c A B) where
+  plus : (a + b) * w * 1 ≡ (A + B) * c
+  plus = omega arith
+
+  minus : (a - b) * w * 1 ≡ (A - B) * c
+  minus = omega (arith, sub-mul a b w, sub-mul A B c)
+
+  turned : Pair w b a c B A
+  turned = record { divisor = p .divisor; left = p .right; right = p .left }
+
+  in-order : b ≤ a → B ≤ A
+  in-order h = by (decLe B A)
+    where
+      by : Dec (B ≤ A) → B ≤ A
+      by (yes l) = l
+      by (no l) =
+          let less : A + 1 ≤ B = omega arith in
+          absurd (omega (arith, mul-le-mul-right w h, mul-le-mul-right c less))
+
+-- ---- the sum of fractions, with signs
+module _ {a b c A B : ℕ} (p : Pair (2 ^ 149) a b c A B) where
+  agree : (s : Bool) → answered (ieee.round ieee.binary32 s (a + b) c) ≡ nearestOf (signed s A +ℤ signed s B)
+  agree s =
+      round-standard s (record { divisor = p .divisor; divisor′ = omega arith; cross = plus p })
+      ∙ nearest-signed s (A + B) (signed s A +ℤ signed s B) (sym (add-agree s A B))
+
+  -- the first is not the lesser
+  differ : (s r : Bool) → b ≤ a → signed r (A - B) ≡ signed s (A - B) → answered (ieee.round ieee.binary32 r (a - b) c) ≡ nearestOf (signed s A +ℤ signed (not s) B)
+  differ s r h e =
+      round-standard r (record { divisor = p .divisor; divisor′ = omega arith; cross = minus p })
+      ∙ nearest-signed r (A - B) (signed s A +ℤ signed (not s) B) (e ∙ sym (add-differ s A B (in-order p h)))
+
+  -- a difference of 0 has the sign plus
+  zero-sign : (s t : Bool) → ltb b a ≡ t → b ≤ a → signed (s && t) (A - B) ≡ signed s (A - B)
+  zero-sign true true e h = refl
+  zero-sign false t e h = refl
+  zero-sign true false e h =
+      let none : A - B ≡ 0 = omega (arith, in-order (turned p) (ltb-false b a e)) in
+      rw none
+
+module _ {a b c A B : ℕ} (p : Pair (2 ^ 149) a b c A B) where
+  commuted : (s : Bool) → signed (not s) B +ℤ signed (not (not s)) A ≡ signed s A +ℤ signed (not s) B
+  commuted true = +ℤ-comm (signed false B) (signed true A)
+  commuted false = +ℤ-comm (signed true B) (signed false A)
+
+  opposite : (s : Bool) → answered (cond (ltb a b) (ieee.round ieee.binary32 (not s) (b - a) c) (ieee.round ieee.binary32 (s && ltb b a) (a - b) c)) ≡ nearestOf (signed s A +ℤ signed (not s) B)
+  opposite s = by (ltb a b) refl
+    where
+      by : (t : Bool) → ltb a b ≡ t
+          → answered (cond t (ieee.round ieee.binary32 (not s) (b - a) c) (ieee.round ieee.binary32 (s && ltb b a) (a - b) c)) ≡ nearestOf (signed s A +ℤ signed (not s) B)
+      by true e = differ (turned p) (not s) (not s) (omega (arith, ltb-true a b e)) refl ∙ ap nearestOf (commuted s)
+      by false e = differ p s (s && ltb b a) (ltb-false a b e) (zero-sign p s (ltb b a) refl (ltb-false a b e))
+
+  sum-standard : (s t : Bool) → answered (sum ieee.binary32 s a t b c) ≡ nearestOf (signed s A +ℤ signed t B)
+  unfolding sum
+  sum-standard true true = agree p true
+  sum-standard true false = opposite true
+  sum-standard false true = opposite false
+  sum-standard false false = agree p false
+
+-- ---- the sum and the difference of finite floats
+negated-value : (y : Float) (t : Bool) (B : ℕ) → HasValue y t B (2 ^ 149) → HasValue (neg y) (not t) B (2 ^ 149)
+unfolding neg
+negated-value nan t B h = absurd h
+negated-value (inf q) t B h = absurd h
+negated-value (fin q n d) t B h = (ap not (h .0), h .1)
+
+-- two fractions with one denominator
+paired : {w u v A B : ℕ} (m n : ℕ) → 1 ≤ u → 1 ≤ v → m * w ≡ A * u → n * w ≡ B * v → Pair w (m * v) (n * u) (u * v) A B
+paired {w} {u} {v} m n hu hv e f =
+    record { divisor = mul-pos hu hv; left = omega (arith, ap (λ (z : ℕ). z * v) e); right = omega (arith, ap (λ (z : ℕ). z * u) f) }
+
+add-standard : (x y : Float) (s t : Bool) (A B : ℕ) → HasValue x s A (2 ^ 149) → HasValue y t B (2 ^ 149)
+    → answered (add ieee.binary32 x y) ≡ nearestOf (signed s A +ℤ signed t B)
+unfolding add
+add-standard nan y s t A B h k = absurd h
+add-standard (inf r) y s t A B h k = absurd h
+add-standard (fin r m e) nan s t A B h k = absurd k
+add-standard (fin r m e) (inf q) s t A B h k = absurd k
+add-standard (fin r m e) (fin q n d) s t A B h k =
+    ap₂ (λ (i j : Bool). answered (sum ieee.binary32 i (m * up e * down d) j (n * up d * down e) (down e * down d))) (h .0) (k .0)
+    ∙ sum-standard (paired (m * up e) (n * up d) (down-pos e) (down-pos d) (h .1) (k .1)) s t
+
+module _ (a b : ℕ) {x y : Number} (r : patternRead a ≡ Value x) (q : patternRead b ≡ Value y) where
+  -- the sum is that of lib.Ieee
+  pub ieee-sum : answered (add ieee.binary32 (ofBits ieee.binary32 a) (ofBits ieee.binary32 b)) ≡ nearestOf (value binary32 x +ℤ value binary32 y)
+  ieee-sum =
+      add-standard (ofBits ieee.binary32 a) (ofBits ieee.binary32 b) (signOf a) (signOf b) (magnitudeRead a) (magnitudeRead b)
+      (value-standard a (reads a r .finite)) (value-standard b (reads b q .finite))
+      ∙ ap nearestOf (ap₂ _+ℤ_ (sym (read-value a r)) (sym (read-value b q)))
+
+  -- and so is the difference
+  pub ieee-difference : answered (sub ieee.binary32 (ofBits ieee.binary32 a) (ofBits ieee.binary32 b)) ≡ nearestOf (value binary32 x -ℤ value binary32 y)
+  unfolding sub
+  ieee-difference =
+      add-standard (ofBits ieee.binary32 a) (neg (ofBits ieee.binary32 b)) (signOf a) (not (signOf b)) (magnitudeRead a) (magnitudeRead b)
+      (value-standard a (reads a r .finite)) (negated-value (ofBits ieee.binary32 b) (signOf b) (magnitudeRead b) (value-standard b (reads b q .finite)))
+      ∙ ap nearestOf (ap₂ _+ℤ_ (sym (read-value a r)) (sym (negate-signed (signOf b) (magnitudeRead b)) ∙ ap negℤ (sym (read-value b q))))
