@@ -6,3 +6,4 @@ pub mod PatternOrder
 pub mod Standard
 pub mod StandardRound
 pub mod StandardSum
+pub mod StandardProduct

@@ -22,7 +22,7 @@ use Rattle.number.specs.declared.Answer.the-variants as answer
 use Rattle.number.specs.Numbers.{member, placeOf, magnitude, value, number, greatest}
 use Rattle.number.specs.Entry.{all, entry, after}
 use Rattle.number.proofs.Membership.{Member, members, member-made}
-use Rattle.number.proofs.Values.{written, place-there, canonical-within, member-canonical, member-highest, number-of, own-sign, number-value, number-member}
+use Rattle.number.proofs.Values.{written, place-there, canonical-within, member-canonical, member-highest, number-of, own-sign, number-magnitude, number-value, number-member}
 use Rattle.number.proofs.Entries.{entry-made}
 use Rattle.binary32.specs.declared.Pattern.the-variants as pattern
 use Rattle.binary32.specs.Patterns.{signOf, fieldOf, fractionOf, finite, magnitudeRead, numberRead, patternRead, patternOf, patternWritten}
@@ -68,6 +68,14 @@ read-member n {x} h = member-made x binary32-limits (read-inside n (reads n h))
 pub read-value : (n : ℕ) {x : Number} → patternRead n ≡ answer.Value x → value binary32 x ≡ signed (signOf n) (magnitudeRead n)
 unfolding numberRead
 read-value n h = ap (value binary32) (reads n h .is) ∙ number-value binary32-limits (read-wide n) (signOf n)
+
+pub read-magnitude : (n : ℕ) {x : Number} → patternRead n ≡ answer.Value x → magnitude binary32 x ≡ magnitudeRead n
+unfolding numberRead
+read-magnitude n h = ap (magnitude binary32) (reads n h .is) ∙ number-magnitude binary32-limits (read-wide n) (signOf n)
+
+pub read-sign : (n : ℕ) {x : Number} → patternRead n ≡ answer.Value x → x .negative ≡ not (eqb (magnitudeRead n) 0) && signOf n
+unfolding numberRead number
+read-sign n h = ap (λ (y : Number). y .negative) (reads n h .is)
 
 -- ---- what is written
 pub written-made : (x : Number) → member binary32 x ≡ true → patternWritten x ≡ pattern.Written (patternOf x)

@@ -20,7 +20,7 @@ use lib.Ieee.Nearest.{closest, closest-same, div-same}
 use Rattle.theory.specs.Place.{Positional, place, step}
 use Rattle.theory.specs.Tests.{unless}
 use Rattle.theory.specs.Wide.{Wide}
-use Rattle.theory.specs.Round.{Direction, nearest-even, Location, chosen, takes-upper, round}
+use Rattle.theory.specs.Round.{nearest-even, Location, chosen, takes-upper, round}
 use Rattle.theory.specs.Signed.{signed, roundZ}
 use Rattle.theory.proofs.Tests.{unless-passed, unless-failed}
 use Rattle.theory.proofs.Powers.{pow-pos, pow-mono}
@@ -132,11 +132,20 @@ module _ (s : Bool) {n : ℕ} where
   unfolding delivered
   delivered-beyond h = unless-failed _ _ (lt-leb _ _ (beyond h))
 
+-- ± N / D units of 2 ^ -149, rounded to nearest with ties to even and delivered
+abbrev pub nearestOf : (negative : Bool) (N D : ℕ) → Answer
+nearestOf negative N D = delivered binary32 negative (round 2 24 nearest-even negative N D)
+
 -- ---- num / den is N / D units of 2 ^ -149
 pub record Exact (num den N D : ℕ) : Type 0 where
   pub divisor : 1 ≤ den
   pub divisor′ : 1 ≤ D
   pub cross : num * 2 ^ 149 * D ≡ N * den
+
+-- m / u is A units of 1 / w
+pub record Counts (w m u A : ℕ) : Type 0 where
+  pub divisor : 1 ≤ u
+  pub is : m * w ≡ A * u
 
 -- a common factor
 scaled : (n den N D w : ℕ) → n * D ≡ N * den → n * (D * w) ≡ N * (den * w)
@@ -162,29 +171,24 @@ module _ (s : Bool) {num den N D : ℕ} (e : Exact num den N D) where
   unfolding step
   rounded = closest-round s N (e .divisor′)
 
-  abbrev R : ℕ
-  R = round 2 24 nearest-even s N D
-
-  pub round-standard : answered (ieee.round ieee.binary32 s num den) ≡ delivered binary32 s (round 2 24 nearest-even s N D)
+  pub round-standard : answered (ieee.round ieee.binary32 s num den) ≡ nearestOf s N D
   unfolding units answered
   round-standard = ap answered round-units ∙ by (ltb (q * 2 ^ k) (2 ^ 277)) refl
     where
-      by : (t : Bool) → ltb (q * 2 ^ k) (2 ^ 277) ≡ t → answered (cond t (odd 25 s q k 149) (inf s)) ≡ delivered binary32 s R
+      by : (t : Bool) → ltb (q * 2 ^ k) (2 ^ 277) ≡ t → answered (cond t (odd 25 s q k 149) (inf s)) ≡ nearestOf s N D
       by true l =
           answered-value (odd 25 s q k 149) s (q * 2 ^ k) (odd-sign 25 s q k 149) ∙ ap (λ (n : ℕ). Value (number binary32 s n)) rounded
           ∙ sym (delivered-below s (round-wide two N (e .divisor′) nearest-even s) (subst (λ (n : ℕ). n < 2 ^ 277) rounded (ltb-true (q * 2 ^ k) (2 ^ 277) l)))
       by false l = sym (delivered-beyond s (subst (λ (n : ℕ). 2 ^ 277 ≤ n) rounded (ltb-false (q * 2 ^ k) (2 ^ 277) l)))
 
 -- ---- the answer depends on the exact value alone, and not on a sign of zero
-pub delivered-same : (d : Direction) (s t : Bool) (m n : ℕ) {D : ℕ} → 1 ≤ D → signed s m ≡ signed t n
-    → delivered binary32 s (round 2 24 d s m D) ≡ delivered binary32 t (round 2 24 d t n D)
+delivered-same : (s t : Bool) (m n : ℕ) → signed s m ≡ signed t n → delivered binary32 s m ≡ delivered binary32 t n
 unfolding delivered
-delivered-same d s t m n {D} hD e =
-    ap₂ (λ (r : ℕ) (x : Number). unless (leb r (greatest binary32)) (Refused TooLarge) (Value x)) magnitudes
-    (number-same binary32 s t (round 2 24 d s m D) (round 2 24 d t n D) values)
-  where
-    values : signed s (round 2 24 d s m D) ≡ signed t (round 2 24 d t n D)
-    values = sym (roundZ-signed two hD d s m) ∙ ap (λ (v : ℤ). roundZ 2 24 d v D) e ∙ roundZ-signed two hD d t n
+delivered-same s t m n e =
+    ap₂ (λ (r : ℕ) (x : Number). unless (leb r (greatest binary32)) (Refused TooLarge) (Value x))
+    (sym (size-signed s m) ∙ ap natAbs e ∙ size-signed t n) (number-same binary32 s t m n e)
 
-    magnitudes : round 2 24 d s m D ≡ round 2 24 d t n D
-    magnitudes = sym (size-signed s (round 2 24 d s m D)) ∙ ap natAbs values ∙ size-signed t (round 2 24 d t n D)
+pub nearest-same : (s t : Bool) (m n : ℕ) {D : ℕ} → 1 ≤ D → signed s m ≡ signed t n → nearestOf s m D ≡ nearestOf t n D
+nearest-same s t m n {D} hD e =
+    delivered-same s t (round 2 24 nearest-even s m D) (round 2 24 nearest-even t n D)
+    (sym (roundZ-signed two hD nearest-even s m) ∙ ap (λ (v : ℤ). roundZ 2 24 nearest-even v D) e ∙ roundZ-signed two hD nearest-even t n)

@@ -12,25 +12,25 @@ use lib.Ieee as ieee
 use lib.Ieee.{Float, nan, inf, fin, up, down, sum, add, sub, neg, ofBits}
 use lib.Ieee.Exact.{HasValue}
 use lib.Ieee.Fits.{down-pos}
-use Rattle.theory.specs.Round.{nearest-even, round}
+use Rattle.theory.specs.Round.{round}
 use Rattle.theory.specs.Signed.{signed, is-negative}
 use Rattle.theory.proofs.Integers.{own-sign, add-agree, add-differ, negate-signed}
 use Rattle.format.specs.Published.{binary32}
 use Rattle.number.specs.declared.Number.{Number}
 use Rattle.number.specs.declared.Answer.{Answer}
 use Rattle.number.specs.declared.Answer.the-variants.{Value}
-use Rattle.number.specs.Numbers.{value, delivered}
+use Rattle.number.specs.Numbers.{value}
 use Rattle.binary32.specs.Patterns.{signOf, magnitudeRead, patternRead}
 use Rattle.binary32.proofs.RoundTrips.{reads, read-value}
 use Rattle.binary32.proofs.Standard.{value-standard}
-use Rattle.binary32.proofs.StandardRound.{answered, round-standard, delivered-same}
+use Rattle.binary32.proofs.StandardRound.{answered, nearestOf, nearest-same, Counts, round-standard}
 
--- the exact value v in units of 2 ^ -149, rounded to nearest with ties to even
-abbrev pub nearestOf : ℤ → Answer
-nearestOf v = delivered binary32 (is-negative v) (round 2 24 nearest-even (is-negative v) (natAbs v) 1)
+-- v units of 2 ^ -149, rounded to nearest with ties to even and delivered
+abbrev pub nearestZ : ℤ → Answer
+nearestZ v = nearestOf (is-negative v) (natAbs v) 1
 
-nearest-signed : (s : Bool) (n : ℕ) (v : ℤ) → signed s n ≡ v → delivered binary32 s (round 2 24 nearest-even s n 1) ≡ nearestOf v
-nearest-signed s n v e = delivered-same nearest-even s (is-negative v) n (natAbs v) (omega arith) (e ∙ sym (own-sign v))
+nearest-signed : (s : Bool) (n : ℕ) (v : ℤ) → signed s n ≡ v → nearestOf s n 1 ≡ nearestZ v
+nearest-signed s n v e = nearest-same s (is-negative v) n (natAbs v) (omega arith) (e ∙ sym (own-sign v))
 
 -- ---- a / c and b / c are A and B units of 1 / w
 record Pair (w a b c A B : ℕ) : Type 0 where
@@ -62,13 +62,13 @@ module _ {w a b c A B : ℕ} (p : Pair w a b c A B) where
 
 -- ---- the sum of fractions, with signs
 module _ {a b c A B : ℕ} (p : Pair (2 ^ 149) a b c A B) where
-  agree : (s : Bool) → answered (ieee.round ieee.binary32 s (a + b) c) ≡ nearestOf (signed s A +ℤ signed s B)
+  agree : (s : Bool) → answered (ieee.round ieee.binary32 s (a + b) c) ≡ nearestZ (signed s A +ℤ signed s B)
   agree s =
       round-standard s (record { divisor = p .divisor; divisor′ = omega arith; cross = plus p })
       ∙ nearest-signed s (A + B) (signed s A +ℤ signed s B) (sym (add-agree s A B))
 
   -- the first is not the lesser
-  differ : (s r : Bool) → b ≤ a → signed r (A - B) ≡ signed s (A - B) → answered (ieee.round ieee.binary32 r (a - b) c) ≡ nearestOf (signed s A +ℤ signed (not s) B)
+  differ : (s r : Bool) → b ≤ a → signed r (A - B) ≡ signed s (A - B) → answered (ieee.round ieee.binary32 r (a - b) c) ≡ nearestZ (signed s A +ℤ signed (not s) B)
   differ s r h e =
       round-standard r (record { divisor = p .divisor; divisor′ = omega arith; cross = minus p })
       ∙ nearest-signed r (A - B) (signed s A +ℤ signed (not s) B) (e ∙ sym (add-differ s A B (in-order p h)))
@@ -86,15 +86,15 @@ module _ {a b c A B : ℕ} (p : Pair (2 ^ 149) a b c A B) where
   commuted true = +ℤ-comm (signed false B) (signed true A)
   commuted false = +ℤ-comm (signed true B) (signed false A)
 
-  opposite : (s : Bool) → answered (cond (ltb a b) (ieee.round ieee.binary32 (not s) (b - a) c) (ieee.round ieee.binary32 (s && ltb b a) (a - b) c)) ≡ nearestOf (signed s A +ℤ signed (not s) B)
+  opposite : (s : Bool) → answered (cond (ltb a b) (ieee.round ieee.binary32 (not s) (b - a) c) (ieee.round ieee.binary32 (s && ltb b a) (a - b) c)) ≡ nearestZ (signed s A +ℤ signed (not s) B)
   opposite s = by (ltb a b) refl
     where
       by : (t : Bool) → ltb a b ≡ t
-          → answered (cond t (ieee.round ieee.binary32 (not s) (b - a) c) (ieee.round ieee.binary32 (s && ltb b a) (a - b) c)) ≡ nearestOf (signed s A +ℤ signed (not s) B)
-      by true e = differ (turned p) (not s) (not s) (omega (arith, ltb-true a b e)) refl ∙ ap nearestOf (commuted s)
+          → answered (cond t (ieee.round ieee.binary32 (not s) (b - a) c) (ieee.round ieee.binary32 (s && ltb b a) (a - b) c)) ≡ nearestZ (signed s A +ℤ signed (not s) B)
+      by true e = differ (turned p) (not s) (not s) (omega (arith, ltb-true a b e)) refl ∙ ap nearestZ (commuted s)
       by false e = differ p s (s && ltb b a) (ltb-false a b e) (zero-sign p s (ltb b a) refl (ltb-false a b e))
 
-  sum-standard : (s t : Bool) → answered (sum ieee.binary32 s a t b c) ≡ nearestOf (signed s A +ℤ signed t B)
+  sum-standard : (s t : Bool) → answered (sum ieee.binary32 s a t b c) ≡ nearestZ (signed s A +ℤ signed t B)
   unfolding sum
   sum-standard true true = agree p true
   sum-standard true false = opposite true
@@ -109,12 +109,16 @@ negated-value (inf q) t B h = absurd h
 negated-value (fin q n d) t B h = (ap not (h .0), h .1)
 
 -- two fractions with one denominator
-paired : {w u v A B : ℕ} (m n : ℕ) → 1 ≤ u → 1 ≤ v → m * w ≡ A * u → n * w ≡ B * v → Pair w (m * v) (n * u) (u * v) A B
-paired {w} {u} {v} m n hu hv e f =
-    record { divisor = mul-pos hu hv; left = omega (arith, ap (λ (z : ℕ). z * v) e); right = omega (arith, ap (λ (z : ℕ). z * u) f) }
+paired : {w m u A n v B : ℕ} → Counts w m u A → Counts w n v B → Pair w (m * v) (n * u) (u * v) A B
+paired {u = u} {v = v} a b =
+    record {
+      divisor = mul-pos (a .divisor) (b .divisor);
+      left = omega (arith, ap (λ (z : ℕ). z * v) (a .is));
+      right = omega (arith, ap (λ (z : ℕ). z * u) (b .is));
+    }
 
 add-standard : (x y : Float) (s t : Bool) (A B : ℕ) → HasValue x s A (2 ^ 149) → HasValue y t B (2 ^ 149)
-    → answered (add ieee.binary32 x y) ≡ nearestOf (signed s A +ℤ signed t B)
+    → answered (add ieee.binary32 x y) ≡ nearestZ (signed s A +ℤ signed t B)
 unfolding add
 add-standard nan y s t A B h k = absurd h
 add-standard (inf r) y s t A B h k = absurd h
@@ -122,20 +126,20 @@ add-standard (fin r m e) nan s t A B h k = absurd k
 add-standard (fin r m e) (inf q) s t A B h k = absurd k
 add-standard (fin r m e) (fin q n d) s t A B h k =
     ap₂ (λ (i j : Bool). answered (sum ieee.binary32 i (m * up e * down d) j (n * up d * down e) (down e * down d))) (h .0) (k .0)
-    ∙ sum-standard (paired (m * up e) (n * up d) (down-pos e) (down-pos d) (h .1) (k .1)) s t
+    ∙ sum-standard (paired (record { divisor = down-pos e; is = h .1 }) (record { divisor = down-pos d; is = k .1 })) s t
 
 module _ (a b : ℕ) {x y : Number} (r : patternRead a ≡ Value x) (q : patternRead b ≡ Value y) where
   -- the sum is that of lib.Ieee
-  pub ieee-sum : answered (add ieee.binary32 (ofBits ieee.binary32 a) (ofBits ieee.binary32 b)) ≡ nearestOf (value binary32 x +ℤ value binary32 y)
+  pub ieee-sum : answered (add ieee.binary32 (ofBits ieee.binary32 a) (ofBits ieee.binary32 b)) ≡ nearestZ (value binary32 x +ℤ value binary32 y)
   ieee-sum =
       add-standard (ofBits ieee.binary32 a) (ofBits ieee.binary32 b) (signOf a) (signOf b) (magnitudeRead a) (magnitudeRead b)
       (value-standard a (reads a r .finite)) (value-standard b (reads b q .finite))
-      ∙ ap nearestOf (ap₂ _+ℤ_ (sym (read-value a r)) (sym (read-value b q)))
+      ∙ ap nearestZ (ap₂ _+ℤ_ (sym (read-value a r)) (sym (read-value b q)))
 
   -- and so is the difference
-  pub ieee-difference : answered (sub ieee.binary32 (ofBits ieee.binary32 a) (ofBits ieee.binary32 b)) ≡ nearestOf (value binary32 x -ℤ value binary32 y)
+  pub ieee-difference : answered (sub ieee.binary32 (ofBits ieee.binary32 a) (ofBits ieee.binary32 b)) ≡ nearestZ (value binary32 x -ℤ value binary32 y)
   unfolding sub
   ieee-difference =
       add-standard (ofBits ieee.binary32 a) (neg (ofBits ieee.binary32 b)) (signOf a) (not (signOf b)) (magnitudeRead a) (magnitudeRead b)
       (value-standard a (reads a r .finite)) (negated-value (ofBits ieee.binary32 b) (signOf b) (magnitudeRead b) (value-standard b (reads b q .finite)))
-      ∙ ap nearestOf (ap₂ _+ℤ_ (sym (read-value a r)) (sym (negate-signed (signOf b) (magnitudeRead b)) ∙ ap negℤ (sym (read-value b q))))
+      ∙ ap nearestZ (ap₂ _+ℤ_ (sym (read-value a r)) (sym (negate-signed (signOf b) (magnitudeRead b)) ∙ ap negℤ (sym (read-value b q))))

@@ -1,0 +1,143 @@
+-- The product and the quotient of finite patterns to nearest, ties to even, are those of lib.Ieee.
+use Prim.Native.Nat.{ℕ, zero, suc, _*_, _^_, _≤_}
+use mathlib.Core.Path.{_≡_, refl, sym, ap, ap₂, subst, _∙_}
+use mathlib.Core.Bool.{Bool, true, false, not, _&&_, cond, xor}
+use native.Mathlib.Nat.{mul-pos, mul-le-mul-right, zero-mul, mul-zero}
+use native.Mathlib.Omega.{arith}
+use lib.Dec.{eqb}
+use borrow.Author.Tests.{eqb-true, ne-eqb}
+use lib.Ieee as ieee
+use lib.Ieee.{Float, nan, inf, fin, up, down, unlike, mul, div, ofBits}
+use lib.Ieee.Exact.{HasValue}
+use lib.Ieee.Fits.{up-pos, down-pos}
+use lib.Ieee.Scale as scale
+use Rattle.theory.specs.Signed.{signed}
+use Rattle.theory.proofs.Powers.{pow-pos}
+use Rattle.format.specs.Published.{binary32}
+use Rattle.number.specs.declared.Number.{Number}
+use Rattle.number.specs.declared.Answer.the-variants.{Value}
+use Rattle.number.specs.Numbers.{magnitude}
+use Rattle.binary32.specs.Patterns.{signOf, magnitudeRead, patternRead}
+use Rattle.binary32.proofs.RoundTrips.{reads, read-magnitude, read-sign}
+use Rattle.binary32.proofs.Standard.{value-standard}
+use Rattle.binary32.proofs.StandardRound.{answered, nearestOf, nearest-same, Counts, Exact, round-standard}
+
+-- ---- the exact fractions
+module _ {m u A n v B : ℕ} (a : Counts (2 ^ 149) m u A) (b : Counts (2 ^ 149) n v B) where
+  product-exact : Exact (m * n) (u * v) (A * B) (2 ^ 149)
+  product-exact = record { divisor = mul-pos (a .divisor) (b .divisor); divisor′ = pow-pos {β = 2} (omega arith) 149; cross = crossed (2 ^ 149) (a .is) (b .is) }
+    where
+      crossed : (w : ℕ) → m * w ≡ A * u → n * w ≡ B * v → m * n * w * w ≡ A * B * (u * v)
+      crossed w e f = omega (arith, ap₂ _*_ e f)
+
+  quotient-exact : 1 ≤ n → 1 ≤ B → Exact (m * v) (n * u) (A * 2 ^ 149) B
+  quotient-exact hn hB = record { divisor = mul-pos hn (a .divisor); divisor′ = hB; cross = crossed (2 ^ 149) (a .is) (b .is) }
+    where
+      crossed : (w : ℕ) → m * w ≡ A * u → n * w ≡ B * v → m * v * w * B ≡ A * w * (n * u)
+      crossed w e f = omega (arith, ap (λ (z : ℕ). z * v * B) e, ap (λ (z : ℕ). A * u * z) f)
+
+-- ---- of finite floats
+mul-standard : (x y : Float) (s t : Bool) (A B : ℕ) → HasValue x s A (2 ^ 149) → HasValue y t B (2 ^ 149)
+    → answered (mul ieee.binary32 x y) ≡ nearestOf (unlike s t) (A * B) (2 ^ 149)
+unfolding mul
+mul-standard nan y s t A B h k = absurd h
+mul-standard (inf r) y s t A B h k = absurd h
+mul-standard (fin r m e) nan s t A B h k = absurd k
+mul-standard (fin r m e) (inf q) s t A B h k = absurd k
+mul-standard (fin r m e) (fin q n d) s t A B h k =
+    ap₂ (λ (i j : Bool). answered (ieee.round ieee.binary32 (unlike i j) (m * up e * (n * up d)) (down e * down d))) (h .0) (k .0)
+    ∙ round-standard (unlike s t) (product-exact (record { divisor = down-pos e; is = h .1 }) (record { divisor = down-pos d; is = k .1 }))
+
+-- a value is 0 where its significand is
+zero-value : (u w B v : ℕ) → 1 ≤ v → 0 * u * w ≡ B * v → B ≡ 0
+zero-value u w zero v hv e = refl
+zero-value u w (suc B) v hv e = absurd (omega (arith, mul-le-mul-right {m = 1} {n = suc B} v (omega arith)))
+
+div-standard : (x y : Float) (s t : Bool) (A B : ℕ) → 1 ≤ B → HasValue x s A (2 ^ 149) → HasValue y t B (2 ^ 149)
+    → answered (div ieee.binary32 x y) ≡ nearestOf (unlike s t) (A * 2 ^ 149) B
+unfolding div
+div-standard nan y s t A B hB h k = absurd h
+div-standard (inf r) y s t A B hB h k = absurd h
+div-standard (fin r m e) nan s t A B hB h k = absurd k
+div-standard (fin r m e) (inf q) s t A B hB h k = absurd k
+div-standard (fin r m e) (fin q zero d) s t A B hB h k = absurd (omega (arith, zero-value (up d) (2 ^ 149) B (down d) (down-pos d) (k .1)))
+div-standard (fin r m e) (fin q (suc n) d) s t A B hB h k =
+    ap (λ (c : Bool). answered (cond c (cond (eqb m 0) nan (inf (unlike r q))) (quotient r q))) (ne-eqb (suc n) 0 (λ z. omega arith))
+    ∙ ap₂ (λ (i j : Bool). answered (quotient i j)) (h .0) (k .0)
+    ∙ round-standard (unlike s t)
+    (quotient-exact (record { divisor = down-pos e; is = h .1 }) (record { divisor = down-pos d; is = k .1 }) (mul-pos (omega arith) (up-pos d)) hB)
+  where
+    quotient : Bool → Bool → Float
+    quotient i j = ieee.round ieee.binary32 (unlike i j) (m * up e * down d) (suc n * up d * down e)
+
+-- by zero the quotient is an infinity or NaN
+no-zero : (n u w v : ℕ) → 1 ≤ u → 1 ≤ w → suc n * u * w ≡ 0 * v → ⊥
+no-zero n u w v hu hw e = omega (arith, mul-pos (mul-pos {m = suc n} {n = u} (omega arith) hu) hw)
+
+by-zero : (x y : Float) (s t : Bool) (A : ℕ) → HasValue x s A (2 ^ 149) → HasValue y t 0 (2 ^ 149) → scale.finite (div ieee.binary32 x y) ≡ false
+unfolding div
+by-zero nan y s t A h k = absurd h
+by-zero (inf r) y s t A h k = absurd h
+by-zero (fin r m e) nan s t A h k = absurd k
+by-zero (fin r m e) (inf q) s t A h k = absurd k
+by-zero (fin r m e) (fin q (suc n) d) s t A h k = absurd (no-zero n (up d) (2 ^ 149) (down d) (up-pos d) (pow-pos {β = 2} (omega arith) 149) (k .1))
+by-zero (fin r m e) (fin q zero d) s t A h k = either (eqb m 0)
+  where
+    either : (c : Bool) → scale.finite (cond c nan (inf (unlike r q))) ≡ false
+    either true = refl
+    either false = refl
+
+-- ---- of patterns
+-- the sign of an operand that is 0 does not count, where the result is 0 too
+zero-sign : (s t : Bool) → signed s 0 ≡ signed t 0
+zero-sign true true = refl
+zero-sign true false = refl
+zero-sign false true = refl
+zero-sign false false = refl
+
+same-sign : (s t : Bool) (A B N : ℕ) → (A ≡ 0 → N ≡ 0) → (B ≡ 0 → N ≡ 0)
+    → signed (unlike s t) N ≡ signed (xor (not (eqb A 0) && s) (not (eqb B 0) && t)) N
+unfolding xor
+same-sign s t A B N a b = by (eqb A 0) (eqb B 0) refl refl
+  where
+    none : (i j : Bool) → N ≡ 0 → signed i N ≡ signed j N
+    none i j e = rw e (zero-sign i j)
+
+    by : (p q : Bool) → eqb A 0 ≡ p → eqb B 0 ≡ q → signed (unlike s t) N ≡ signed (xor (not p && s) (not q && t)) N
+    by true q e f = none (unlike s t) (xor (not true && s) (not q && t)) (a (eqb-true A 0 e))
+    by false true e f = none (unlike s t) (xor (not false && s) (not true && t)) (b (eqb-true B 0 f))
+    by false false e f = refl
+
+module _ (a b : ℕ) {x y : Number} (r : patternRead a ≡ Value x) (q : patternRead b ≡ Value y) where
+  -- the signs as they are read
+  signs-read : (N : ℕ) {D : ℕ} → 1 ≤ D → (magnitudeRead a ≡ 0 → N ≡ 0) → (magnitudeRead b ≡ 0 → N ≡ 0)
+      → nearestOf (unlike (signOf a) (signOf b)) N D ≡ nearestOf (xor (x .negative) (y .negative)) N D
+  signs-read N {D} hD h k =
+      nearest-same (unlike (signOf a) (signOf b)) (xor (not (eqb (magnitudeRead a) 0) && signOf a) (not (eqb (magnitudeRead b) 0) && signOf b)) N N hD
+      (same-sign (signOf a) (signOf b) (magnitudeRead a) (magnitudeRead b) N h k)
+      ∙ ap₂ (λ (i j : Bool). nearestOf (xor i j) N D) (sym (read-sign a r)) (sym (read-sign b q))
+
+  -- the product is that of lib.Ieee
+  pub ieee-product : answered (mul ieee.binary32 (ofBits ieee.binary32 a) (ofBits ieee.binary32 b))
+      ≡ nearestOf (xor (x .negative) (y .negative)) (magnitude binary32 x * magnitude binary32 y) (2 ^ 149)
+  ieee-product =
+      mul-standard (ofBits ieee.binary32 a) (ofBits ieee.binary32 b) (signOf a) (signOf b) (magnitudeRead a) (magnitudeRead b)
+      (value-standard a (reads a r .finite)) (value-standard b (reads b q .finite))
+      ∙ signs-read (magnitudeRead a * magnitudeRead b) (pow-pos {β = 2} (omega arith) 149) (λ e. rw e (zero-mul (magnitudeRead b))) (λ e. rw e (mul-zero (magnitudeRead a)))
+      ∙ ap₂ (λ (m n : ℕ). nearestOf (xor (x .negative) (y .negative)) (m * n) (2 ^ 149)) (sym (read-magnitude a r)) (sym (read-magnitude b q))
+
+  -- and so is the quotient by what is not zero
+  pub ieee-quotient : 1 ≤ magnitude binary32 y → answered (div ieee.binary32 (ofBits ieee.binary32 a) (ofBits ieee.binary32 b))
+      ≡ nearestOf (xor (x .negative) (y .negative)) (magnitude binary32 x * 2 ^ 149) (magnitude binary32 y)
+  ieee-quotient h =
+      let positive : 1 ≤ magnitudeRead b = omega (arith, read-magnitude b q) in
+      div-standard (ofBits ieee.binary32 a) (ofBits ieee.binary32 b) (signOf a) (signOf b) (magnitudeRead a) (magnitudeRead b) positive
+      (value-standard a (reads a r .finite)) (value-standard b (reads b q .finite))
+      ∙ signs-read (magnitudeRead a * 2 ^ 149) positive (λ e. rw e (zero-mul (2 ^ 149))) (λ e. absurd (omega arith))
+      ∙ ap₂ (λ (m n : ℕ). nearestOf (xor (x .negative) (y .negative)) (m * 2 ^ 149) n) (sym (read-magnitude a r)) (sym (read-magnitude b q))
+
+  -- by zero there is no number there either
+  pub ieee-by-zero : magnitude binary32 y ≡ 0 → scale.finite (div ieee.binary32 (ofBits ieee.binary32 a) (ofBits ieee.binary32 b)) ≡ false
+  ieee-by-zero h =
+      by-zero (ofBits ieee.binary32 a) (ofBits ieee.binary32 b) (signOf a) (signOf b) (magnitudeRead a) (value-standard a (reads a r .finite))
+      (subst (λ (n : ℕ). HasValue (ofBits ieee.binary32 b) (signOf b) n (2 ^ 149)) (sym (read-magnitude b q) ∙ h) (value-standard b (reads b q .finite)))
