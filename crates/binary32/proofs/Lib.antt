@@ -7,3 +7,4 @@ pub mod Standard
 pub mod StandardRound
 pub mod StandardSum
 pub mod StandardProduct
+pub mod StandardPatterns

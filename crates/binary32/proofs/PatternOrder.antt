@@ -136,6 +136,6 @@ module _ (a b : ℕ) {x y : Number} (r : patternRead a ≡ Value x) (q : pattern
   -- patterns with one value are one, but for those of plus and minus zero
   pub read-unique : a < 2 ^ 32 → b < 2 ^ 32 → a ≢ 2 ^ 31 → b ≢ 2 ^ 31 → value binary32 x ≡ value binary32 y → a ≡ b
   read-unique ha hb na nb e =
-      let same : x ≡ y = member-unique binary32-limits (read-inside a (reads a r)) (read-inside b (reads b q)) e in
+      let same : x ≡ y = member-unique binary32-limits (read-inside (reads a r)) (read-inside (reads b q)) e in
       let one : Written a ≡ Written b = sym (read-written a ha na r) ∙ ap patternWritten same ∙ read-written b hb nb q in
       cc

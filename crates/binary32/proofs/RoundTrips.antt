@@ -46,7 +46,7 @@ pub read-made : (n : ℕ) → finite n ≡ true → patternRead n ≡ answer.Val
 unfolding patternRead
 read-made n h = unless-passed _ _ h
 
--- the magnitude of a finite pattern is one of format 2
+-- the magnitude of a pattern is one of the wide format, and that of a finite one is at most the greatest
 read-wide : (n : ℕ) → Wide 2 24 (magnitudeRead n)
 read-wide n = rw (magnitude-is n) (canonical-wide (positional binary32-limits) (significand-canonical (fieldOf n) {fraction = fractionOf n} (omega arith)))
 
@@ -55,14 +55,13 @@ read-within n h =
     rw (magnitude-is n)
     (canonical-within binary32-limits (significand-canonical (fieldOf n) {fraction = fractionOf n} (omega arith)) (omega (arith, finite-field n h)))
 
-module _ (n : ℕ) {x : Number} (r : Reads n x) where
-  pub read-inside : Member binary32 x
-  unfolding numberRead
-  read-inside = rw (r .is) (number-member binary32-limits (read-wide n) (signOf n) (read-within n (r .finite)))
+pub read-inside : {n : ℕ} {x : Number} → Reads n x → Member binary32 x
+unfolding numberRead
+read-inside {n} r = rw (r .is) (number-member binary32-limits (read-wide n) (signOf n) (read-within n (r .finite)))
 
 -- what is read is in format 2
 pub read-member : (n : ℕ) {x : Number} → patternRead n ≡ answer.Value x → member binary32 x ≡ true
-read-member n {x} h = member-made x binary32-limits (read-inside n (reads n h))
+read-member n {x} h = member-made x binary32-limits (read-inside (reads n h))
 
 -- and has the value that its parts say
 pub read-value : (n : ℕ) {x : Number} → patternRead n ≡ answer.Value x → value binary32 x ≡ signed (signOf n) (magnitudeRead n)
@@ -112,7 +111,7 @@ module _ (n : ℕ) (h : n < 2 ^ 32) (not-minus-zero : n ≢ 2 ^ 31) where
   sign-back false true e z = omega (arith, leb-false (2 ^ 31) n e, joined (fieldOf n) (fractionOf n))
   sign-back false false e z = omega (arith, leb-false (2 ^ 31) n e, joined (fieldOf n) (fractionOf n))
 
-  pattern-back : patternOf (numberRead n) ≡ n
+  pub pattern-back : patternOf (numberRead n) ≡ n
   pattern-back = ap patternOf (number-read n) ∙ pattern-at (signOf n) m k ∙ sign-back (signOf n) (eqb m 0) refl refl
 
   -- every finite pattern but that of minus zero comes back

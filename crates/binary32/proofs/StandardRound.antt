@@ -4,17 +4,17 @@ use Prim.Native.Nat.{ℕ, suc, _+_, _*_, _-_, _/_, _%_, _^_, _≤_, _<_, compare
 use mathlib.Core.Path.{_≡_, refl, sym, ap, ap₂, subst, _∙_}
 use mathlib.Core.Bool.{Bool, true, false, not, cond}
 use mathlib.Core.Logic.{_≢_}
-use native.Mathlib.Nat.{le-antisymm, lt-of-lt-of-le, mul-div-cancel, mul-pos}
+use native.Mathlib.Nat.{le-antisymm, le-of-suc-le-suc, lt-of-le-of-lt, lt-of-not-le, not-le-of-lt, mul-div-cancel, mul-pos}
 use native.Mathlib.Decide.{ℕ-discrete}
 use native.Mathlib.Omega.{arith}
-use lib.Dec.{T, isLe, isEq, eqb, leb, ltb, leb→le, nleb→lt, eqb→eq}
+use lib.Dec.{T, isLe, isEq, eqb, leb, leb→le, nleb→lt, eqb→eq}
 use lib.IntN.{ℤ, natAbs}
 use mir.Facts.{eqb-no}
-use borrow.Author.Tests.{ltb-true, ltb-false, eq-eqb, ne-eqb, le-leb, lt-leb}
+use borrow.Author.Tests.{ltb-true, leb-true, leb-false, eq-eqb, ne-eqb, le-ltb}
 use lib.Ieee as ieee
 use lib.Ieee.{Float, nan, inf, fin, up, down, size, nearest, odd, units}
 use lib.Ieee.Digits.{size-lt, size-le}
-use lib.Ieee.Exact.{HasValue, odd-sign}
+use lib.Ieee.Exact.{HasValue, units-val}
 use lib.Ieee.Fits.{round-is, down-pos}
 use lib.Ieee.Nearest.{closest, closest-same, div-same}
 use Rattle.theory.specs.Place.{Positional, place, step}
@@ -46,7 +46,14 @@ answered nan = Refused NotFinite
 answered (inf s) = Refused TooLarge
 answered (fin s m e) = Value (number binary32 s (m * up e * 2 ^ 149 / down e))
 
--- by its value
+-- ± N / D units of 2 ^ -149, rounded to nearest with ties to even, and the answer that it makes
+abbrev pub nearestRound : (negative : Bool) (N D : ℕ) → ℕ
+nearestRound negative N D = round 2 24 nearest-even negative N D
+
+abbrev pub nearestOf : (negative : Bool) (N D : ℕ) → Answer
+nearestOf negative N D = delivered binary32 negative (nearestRound negative N D)
+
+-- a finite float's answer, by its value
 pub answered-value : (x : Float) (s : Bool) (n : ℕ) → HasValue x s n (2 ^ 149) → answered x ≡ Value (number binary32 s n)
 unfolding answered
 answered-value nan s n h = absurd h
@@ -105,36 +112,24 @@ module _ (negative : Bool) (n r u s : ℕ) (pos : 1 ≤ u) where
 
 -- lib.Ieee's nearest multiple of the step is the theory's rounding
 closest-round : (negative : Bool) (N : ℕ) {D : ℕ} → 1 ≤ D
-    → closest N (D * step 2 24 (N / D)) * step 2 24 (N / D) ≡ round 2 24 nearest-even negative N D
+    → closest N (D * step 2 24 (N / D)) * step 2 24 (N / D) ≡ nearestRound negative N D
 closest-round negative N {D} hD =
     let w = step 2 24 (N / D) in
     let u : ℕ = D * w in
     steps-nearest negative (N / u) (N % u) u w (mul-pos hD (step-pos two (N / D))) (compared (N % u * 2) u) (location-found (N % u) u 0 1)
     ∙ sym (round-divided two (divided two N hD) nearest-even negative)
 
--- ---- the greatest number
-within : {n : ℕ} → Wide 2 24 n → n < 2 ^ 277 → n ≤ greatest binary32
-unfolding step
-within {n} w h =
-    subst (λ (v : ℕ). v ≤ greatest binary32) (canonical-value two w)
-    (canonical-within binary32-limits (canonical-of two n) (place-le two h))
-
-beyond : {n : ℕ} → 2 ^ 277 ≤ n → greatest binary32 < n
+-- ---- the greatest number is the greatest of the wide format below 2 ^ 128, which is 2 ^ 277 units
+greatest-under : {n : ℕ} → n ≤ greatest binary32 → n < 2 ^ 277
 unfolding greatest
-beyond h = lt-of-lt-of-le (ltb-true (greatest binary32) (2 ^ 277) refl) h
+greatest-under h = lt-of-le-of-lt h (ltb-true (greatest binary32) (2 ^ 277) refl)
 
-module _ (s : Bool) {n : ℕ} where
-  delivered-below : Wide 2 24 n → n < 2 ^ 277 → delivered binary32 s n ≡ Value (number binary32 s n)
-  unfolding delivered
-  delivered-below w h = unless-passed _ _ (le-leb _ _ (within w h))
-
-  delivered-beyond : 2 ^ 277 ≤ n → delivered binary32 s n ≡ Refused TooLarge
-  unfolding delivered
-  delivered-beyond h = unless-failed _ _ (lt-leb _ _ (beyond h))
-
--- ± N / D units of 2 ^ -149, rounded to nearest with ties to even and delivered
-abbrev pub nearestOf : (negative : Bool) (N D : ℕ) → Answer
-nearestOf negative N D = delivered binary32 negative (round 2 24 nearest-even negative N D)
+greatest-least : {n : ℕ} → Wide 2 24 n → greatest binary32 < n → 2 ^ 277 ≤ n
+unfolding step
+greatest-least {n} w h = le-of-suc-le-suc (lt-of-not-le (λ (l : n < 2 ^ 277). not-le-of-lt h (within l)))
+  where
+    within : n < 2 ^ 277 → n ≤ greatest binary32
+    within l = subst (λ (v : ℕ). v ≤ greatest binary32) (canonical-value two w) (canonical-within binary32-limits (canonical-of two n) (place-le two l))
 
 -- ---- num / den is N / D units of 2 ^ -149
 pub record Exact (num den N D : ℕ) : Type 0 where
@@ -167,19 +162,36 @@ module _ (s : Bool) {num den N D : ℕ} (e : Exact num den N D) where
       (closest-same (num * 2 ^ 149) (den * 2 ^ k) N (D * 2 ^ k) (mul-pos (e .divisor) (pow-pos (omega arith) k)) (mul-pos (e .divisor′) (pow-pos (omega arith) k))
       (scaled (num * 2 ^ 149) den N D (2 ^ k) (e .cross)))
 
-  rounded : q * 2 ^ k ≡ round 2 24 nearest-even s N D
+  rounded : q * 2 ^ k ≡ nearestRound s N D
   unfolding step
   rounded = closest-round s N (e .divisor′)
 
+  -- up to the greatest number, the float with that value
+  pub round-value : nearestRound s N D ≤ greatest binary32 → HasValue (ieee.round ieee.binary32 s num den) s (nearestRound s N D) (2 ^ 149)
+  round-value h =
+      subst (λ (x : Float). HasValue x s (nearestRound s N D) (2 ^ 149)) (sym round-units)
+      (subst (λ (n : ℕ). HasValue (units ieee.binary32 s q k) s n (2 ^ 149)) rounded
+      (units-val ieee.binary32 s q k (subst (λ (n : ℕ). n < 2 ^ 277) (sym rounded) (greatest-under h))))
+
+  -- beyond it, an infinity
+  pub round-infinite : greatest binary32 < nearestRound s N D → ieee.round ieee.binary32 s num den ≡ inf s
+  unfolding units
+  round-infinite h =
+      round-units
+      ∙ ap (λ (t : Bool). cond t (odd 25 s q k 149) (inf s))
+      (le-ltb (q * 2 ^ k) (2 ^ 277) (subst (λ (n : ℕ). 2 ^ 277 ≤ n) (sym rounded) (greatest-least (round-wide two N (e .divisor′) nearest-even s) h)))
+
   pub round-standard : answered (ieee.round ieee.binary32 s num den) ≡ nearestOf s N D
-  unfolding units answered
-  round-standard = ap answered round-units ∙ by (ltb (q * 2 ^ k) (2 ^ 277)) refl
+  unfolding delivered answered
+  round-standard = by (leb (nearestRound s N D) (greatest binary32)) refl
     where
-      by : (t : Bool) → ltb (q * 2 ^ k) (2 ^ 277) ≡ t → answered (cond t (odd 25 s q k 149) (inf s)) ≡ nearestOf s N D
+      by : (t : Bool) → leb (nearestRound s N D) (greatest binary32) ≡ t → answered (ieee.round ieee.binary32 s num den) ≡ nearestOf s N D
       by true l =
-          answered-value (odd 25 s q k 149) s (q * 2 ^ k) (odd-sign 25 s q k 149) ∙ ap (λ (n : ℕ). Value (number binary32 s n)) rounded
-          ∙ sym (delivered-below s (round-wide two N (e .divisor′) nearest-even s) (subst (λ (n : ℕ). n < 2 ^ 277) rounded (ltb-true (q * 2 ^ k) (2 ^ 277) l)))
-      by false l = sym (delivered-beyond s (subst (λ (n : ℕ). 2 ^ 277 ≤ n) rounded (ltb-false (q * 2 ^ k) (2 ^ 277) l)))
+          answered-value (ieee.round ieee.binary32 s num den) s (nearestRound s N D) (round-value (leb-true (nearestRound s N D) (greatest binary32) l))
+          ∙ sym (unless-passed (Refused TooLarge) (Value (number binary32 s (nearestRound s N D))) l)
+      by false l =
+          ap answered (round-infinite (leb-false (nearestRound s N D) (greatest binary32) l))
+          ∙ sym (unless-failed (Refused TooLarge) (Value (number binary32 s (nearestRound s N D))) l)
 
 -- ---- the answer depends on the exact value alone, and not on a sign of zero
 delivered-same : (s t : Bool) (m n : ℕ) → signed s m ≡ signed t n → delivered binary32 s m ≡ delivered binary32 t n
@@ -190,5 +202,5 @@ delivered-same s t m n e =
 
 pub nearest-same : (s t : Bool) (m n : ℕ) {D : ℕ} → 1 ≤ D → signed s m ≡ signed t n → nearestOf s m D ≡ nearestOf t n D
 nearest-same s t m n {D} hD e =
-    delivered-same s t (round 2 24 nearest-even s m D) (round 2 24 nearest-even t n D)
+    delivered-same s t (nearestRound s m D) (nearestRound t n D)
     (sym (roundZ-signed two hD nearest-even s m) ∙ ap (λ (v : ℤ). roundZ 2 24 nearest-even v D) e ∙ roundZ-signed two hD nearest-even t n)

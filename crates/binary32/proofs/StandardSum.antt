@@ -12,7 +12,6 @@ use lib.Ieee as ieee
 use lib.Ieee.{Float, nan, inf, fin, up, down, sum, add, sub, neg, ofBits}
 use lib.Ieee.Exact.{HasValue}
 use lib.Ieee.Fits.{down-pos}
-use Rattle.theory.specs.Round.{round}
 use Rattle.theory.specs.Signed.{signed, is-negative}
 use Rattle.theory.proofs.Integers.{own-sign, add-agree, add-differ, negate-signed}
 use Rattle.format.specs.Published.{binary32}
@@ -86,11 +85,14 @@ module _ {a b c A B : ℕ} (p : Pair (2 ^ 149) a b c A B) where
   commuted true = +ℤ-comm (signed false B) (signed true A)
   commuted false = +ℤ-comm (signed true B) (signed false A)
 
-  opposite : (s : Bool) → answered (cond (ltb a b) (ieee.round ieee.binary32 (not s) (b - a) c) (ieee.round ieee.binary32 (s && ltb b a) (a - b) c)) ≡ nearestZ (signed s A +ℤ signed (not s) B)
+  -- what lib.Ieee makes of opposite signs, where the first is less or not
+  abbrev opposed : (s less : Bool) → Float
+  opposed s less = cond less (ieee.round ieee.binary32 (not s) (b - a) c) (ieee.round ieee.binary32 (s && ltb b a) (a - b) c)
+
+  opposite : (s : Bool) → answered (opposed s (ltb a b)) ≡ nearestZ (signed s A +ℤ signed (not s) B)
   opposite s = by (ltb a b) refl
     where
-      by : (t : Bool) → ltb a b ≡ t
-          → answered (cond t (ieee.round ieee.binary32 (not s) (b - a) c) (ieee.round ieee.binary32 (s && ltb b a) (a - b) c)) ≡ nearestZ (signed s A +ℤ signed (not s) B)
+      by : (t : Bool) → ltb a b ≡ t → answered (opposed s t) ≡ nearestZ (signed s A +ℤ signed (not s) B)
       by true e = differ (turned p) (not s) (not s) (omega (arith, ltb-true a b e)) refl ∙ ap nearestZ (commuted s)
       by false e = differ p s (s && ltb b a) (ltb-false a b e) (zero-sign p s (ltb b a) refl (ltb-false a b e))
 

@@ -52,3 +52,8 @@ patternOf x = cond (x .negative) (2 ^ 31) 0 + placeOf binary32 x * 2 ^ 23 + x .s
 -- the answer of write_pattern
 unfoldable pub patternWritten : Number → Pattern
 patternWritten x = after (entry binary32 [] (x ∷ [])) pattern.Refused (pattern.Written (patternOf x))
+
+-- an answer with its number written
+abbrev pub answerWritten : Answer → Pattern
+answerWritten (answer.Value x) = pattern.Written (patternOf x)
+answerWritten (answer.Refused why) = pattern.Refused why

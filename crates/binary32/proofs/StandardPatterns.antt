@@ -1,0 +1,93 @@
+-- The operations of lib.Ieee on finite patterns, written as lib.Ieee writes them, are our nearest sum, difference, product and
+-- quotient, written as we write them. An infinity there is refusal 5 here, and minus zero is written as zero.
+use Prim.Native.Nat.{ℕ, _*_, _^_, _≤_, _<_}
+use mathlib.Core.Path.{_≡_, refl, sym, ap, _∙_}
+use mathlib.Core.Bool.{true, false, cond, xor}
+use native.Mathlib.Decide.{ℕ-discrete}
+use native.Mathlib.Omega.{arith}
+use lib.Dec.{T, eqb}
+use lib.IntN.{_+ℤ_, _-ℤ_}
+use borrow.Author.Tests.{eq-eqb, ne-eqb}
+use lib.Ieee as ieee
+use lib.Ieee.{Float, nan, inf, fin, add, sub, mul, div, fits, ofBits, toBits}
+use lib.Ieee.Fits.{add-fits, sub-fits, mul-fits, div-fits}
+use lib.Ieee.Bits.{ofBits-toBits, toBits-lt}
+use lib.Ieee.Scale as scale
+use Rattle.format.specs.declared.Refusal.the-variants.{TooLarge, NotFinite}
+use Rattle.format.specs.Published.{binary32}
+use Rattle.number.specs.declared.Number.{Number}
+use Rattle.number.specs.declared.Answer.the-variants as answer
+use Rattle.number.specs.Numbers.{magnitude, value}
+use Rattle.number.proofs.Values.{number-same}
+use Rattle.binary32.specs.declared.Pattern.{Pattern}
+use Rattle.binary32.specs.declared.Pattern.the-variants.{Written, Refused}
+use Rattle.binary32.specs.Patterns.{signOf, finite, magnitudeRead, numberRead, patternRead, patternOf, answerWritten}
+use Rattle.binary32.proofs.RoundTrips.{read-made, pattern-back}
+use Rattle.binary32.proofs.Standard.{value-standard, finite-standard}
+use Rattle.binary32.proofs.StandardRound.{answered, answered-value, nearestOf}
+use Rattle.binary32.proofs.StandardSum.{nearestZ, ieee-sum, ieee-difference}
+use Rattle.binary32.proofs.StandardProduct.{ieee-product, ieee-quotient}
+
+-- minus zero is written as zero
+abbrev pub plusZero : ℕ → ℕ
+plusZero n = cond (eqb n (2 ^ 31)) 0 n
+
+-- a float's pattern in lib.Ieee; an infinity is a result too large
+unfoldable pub patterned : Float → Pattern
+patterned nan = Refused NotFinite
+patterned (inf s) = Refused TooLarge
+patterned (fin s m e) = Written (plusZero (toBits ieee.binary32 (fin s m e)))
+
+-- a finite pattern's float stands for what we read
+pub answered-read : (n : ℕ) → finite n ≡ true → answered (ofBits ieee.binary32 n) ≡ patternRead n
+unfolding numberRead
+answered-read n h = answered-value (ofBits ieee.binary32 n) (signOf n) (magnitudeRead n) (value-standard n h) ∙ sym (read-made n h)
+
+-- what is written of what is read
+plus-zero-back : (n : ℕ) → n < 2 ^ 32 → patternOf (numberRead n) ≡ plusZero n
+unfolding numberRead magnitudeRead
+plus-zero-back n h = by (ℕ-discrete n (2 ^ 31))
+  where
+    zeros : numberRead (2 ^ 31) ≡ numberRead 0
+    zeros = number-same binary32 true false 0 0 refl
+
+    by : Dec (n ≡ 2 ^ 31) → patternOf (numberRead n) ≡ plusZero n
+    by (yes e) = ap (λ (i : ℕ). patternOf (numberRead i)) e ∙ ap patternOf zeros ∙ pattern-back 0 (omega arith) (λ z. omega arith) ∙ rw (eq-eqb n (2 ^ 31) e)
+    by (no k) = pattern-back n h k ∙ rw (ne-eqb n (2 ^ 31) k)
+
+-- a float that binary32 holds is written as the number that it stands for
+finite-written : (x : Float) → T (fits ieee.binary32 x) → scale.finite x ≡ true → Written (plusZero (toBits ieee.binary32 x)) ≡ answerWritten (answered x)
+finite-written x h f =
+    let n = toBits ieee.binary32 x in
+    let back : ofBits ieee.binary32 n ≡ x = ofBits-toBits ieee.binary32 x h in
+    let ends : finite n ≡ true = sym (finite-standard n) ∙ ap scale.finite back ∙ f in
+    ap Written (sym (plus-zero-back n (toBits-lt ieee.binary32 x h)))
+    ∙ ap answerWritten (sym (read-made n ends) ∙ sym (answered-read n ends) ∙ ap answered back)
+
+pub patterned-written : (x : Float) → T (fits ieee.binary32 x) → patterned x ≡ answerWritten (answered x)
+unfolding patterned answered
+patterned-written nan h = refl
+patterned-written (inf s) h = refl
+patterned-written (fin s m e) h = finite-written (fin s m e) h refl
+
+-- ---- the four operations
+module _ (a b : ℕ) {x y : Number} (r : patternRead a ≡ answer.Value x) (q : patternRead b ≡ answer.Value y) where
+  abbrev f : Float
+  f = ofBits ieee.binary32 a
+
+  abbrev g : Float
+  g = ofBits ieee.binary32 b
+
+  pub pattern-sum : patterned (add ieee.binary32 f g) ≡ answerWritten (nearestZ (value binary32 x +ℤ value binary32 y))
+  pattern-sum = patterned-written (add ieee.binary32 f g) (add-fits ieee.binary32 f g) ∙ ap answerWritten (ieee-sum a b r q)
+
+  pub pattern-difference : patterned (sub ieee.binary32 f g) ≡ answerWritten (nearestZ (value binary32 x -ℤ value binary32 y))
+  pattern-difference = patterned-written (sub ieee.binary32 f g) (sub-fits ieee.binary32 f g) ∙ ap answerWritten (ieee-difference a b r q)
+
+  pub pattern-product : patterned (mul ieee.binary32 f g)
+      ≡ answerWritten (nearestOf (xor (x .negative) (y .negative)) (magnitude binary32 x * magnitude binary32 y) (2 ^ 149))
+  pattern-product = patterned-written (mul ieee.binary32 f g) (mul-fits ieee.binary32 f g) ∙ ap answerWritten (ieee-product a b r q)
+
+  pub pattern-quotient : 1 ≤ magnitude binary32 y → patterned (div ieee.binary32 f g)
+      ≡ answerWritten (nearestOf (xor (x .negative) (y .negative)) (magnitude binary32 x * 2 ^ 149) (magnitude binary32 y))
+  pattern-quotient h = patterned-written (div ieee.binary32 f g) (div-fits ieee.binary32 f g) ∙ ap answerWritten (ieee-quotient a b r q h)
