@@ -13,11 +13,12 @@ use Rattle.theory.proofs.Tests.{never}
 use Rattle.theory.proofs.Integers.{above, below, neg-above, neg-below, diff-parts, size-parts, parts-eq, parts-lt, lt-parts}
 use Rattle.theory.proofs.Powers.{pow-add, pow-pos, pow-pred, pow-mono}
 use Rattle.format.specs.declared.Format.{Format}
+use Rattle.format.specs.declared.Refusal.{Refusal}
 use Rattle.format.proofs.Signed.{Upto, Under, apart, lt-true, lt-false, make-lt, make-ge}
 use Rattle.format.proofs.Formats.{Admitted}
 use Rattle.number.specs.declared.Number.{Number}
 use Rattle.number.specs.declared.Ordered.{Ordered}
-use Rattle.number.specs.declared.Ordered.the-variants.{Less, Equal, Greater}
+use Rattle.number.specs.declared.Ordered.the-variants.{Less, Equal, Greater, Refused}
 use Rattle.number.specs.Numbers.{placeOf, magnitude, value}
 use Rattle.number.specs.Order.{ordered, orderN, orderZ}
 use Rattle.number.proofs.Membership.{Member}
@@ -123,6 +124,7 @@ record Says (lt gt : Bool) (r : Ordered) : Type 0 where
   less : r ≡ Less → lt ≡ true
   equal : r ≡ Equal → (lt ≡ false) × (gt ≡ false)
   greater : r ≡ Greater → gt ≡ true
+  refused : (why : Refusal) → r ≡ Refused why → ⊥
 
 says : (lt gt : Bool) → Says lt gt (ordered lt gt)
 says true gt =
@@ -130,18 +132,21 @@ says true gt =
       less = λ h. refl;
       equal = λ h. absurd (let z : _≡_ {A = ℕ} 0 1 = cc in omega arith);
       greater = λ h. absurd (let z : _≡_ {A = ℕ} 0 1 = cc in omega arith);
+      refused = λ why h. let z : _≡_ {A = ℕ} 0 1 = cc in omega arith;
     }
 says false true =
     record {
       less = λ h. absurd (let z : _≡_ {A = ℕ} 0 1 = cc in omega arith);
       equal = λ h. absurd (let z : _≡_ {A = ℕ} 0 1 = cc in omega arith);
       greater = λ h. refl;
+      refused = λ why h. let z : _≡_ {A = ℕ} 0 1 = cc in omega arith;
     }
 says false false =
     record {
       less = λ h. absurd (let z : _≡_ {A = ℕ} 0 1 = cc in omega arith);
       equal = λ h. (refl, refl);
       greater = λ h. absurd (let z : _≡_ {A = ℕ} 0 1 = cc in omega arith);
+      refused = λ why h. let z : _≡_ {A = ℕ} 0 1 = cc in omega arith;
     }
 
 pub less-says : {v w : ℤ} → orderZ v w ≡ Less → v <ℤ w
@@ -157,3 +162,24 @@ equal-says {v} {w} h =
 pub greater-says : {v w : ℤ} → orderZ v w ≡ Greater → w <ℤ v
 unfolding orderZ
 greater-says {v} {w} h = parts-lt w v (lt-true w v (says (ltZ v w) (ltZ w v) .greater h))
+
+pub never-refused : (v w : ℤ) (why : Refusal) → orderZ v w ≡ Refused why → ⊥
+unfolding orderZ
+never-refused v w why h = says (ltZ v w) (ltZ w v) .refused why h
+
+-- of two magnitudes
+pub size-less-says : {m n : ℕ} → orderN m n ≡ Less → m < n
+unfolding orderN
+size-less-says {m} {n} h = ltb-true m n (says (ltb m n) (ltb n m) .less h)
+
+pub size-equal-says : {m n : ℕ} → orderN m n ≡ Equal → n ≤ m
+unfolding orderN
+size-equal-says {m} {n} h = ltb-false m n (says (ltb m n) (ltb n m) .equal h .0)
+
+pub size-greater-says : {m n : ℕ} → orderN m n ≡ Greater → n < m
+unfolding orderN
+size-greater-says {m} {n} h = ltb-true n m (says (ltb m n) (ltb n m) .greater h)
+
+pub size-never-refused : (m n : ℕ) (why : Refusal) → orderN m n ≡ Refused why → ⊥
+unfolding orderN
+size-never-refused m n why h = says (ltb m n) (ltb n m) .refused why h

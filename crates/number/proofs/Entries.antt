@@ -98,6 +98,11 @@ pub pair-made : (f : Format) (x y : Number) → member f x ≡ true → member f
 unfolding all
 pair-made f x y h k = and-made h (and-made k refl)
 
+-- a call after a passed check
+pub after-passed : {A : Type 0} (refuse : Refusal → A) (rest : A) {v : Verdict} → v ≡ verdict.Passed → after v refuse rest ≡ rest
+unfolding after
+after-passed refuse rest h = rw (h, after)
+
 -- how a check is passed
 pub entry-made : (f : Format) (directions : List ℕ) (numbers : List Number)
     → admitted f ≡ true → all isDirection directions ≡ true → all (member f) numbers ≡ true → entry f directions numbers ≡ verdict.Passed

@@ -20,13 +20,16 @@ use Rattle.number.specs.declared.Number.{Number}
 use Rattle.number.specs.Entry.{Usable}
 use Rattle.number.specs.Numbers.{equalZ, normal, small, isZero, member}
 
-equal-true : (a b : ℤ) → equalZ a b ≡ true → a ≡ b
+pub equal-true : (a b : ℤ) → equalZ a b ≡ true → a ≡ b
 unfolding equalZ
 equal-true a b h = parts-eq a b (omega (arith, le-true a b (and-left _ _ h), le-true b a (and-right _ _ h)))
 
 make-equal : (a b : ℤ) → Upto a b → Upto b a → equalZ a b ≡ true
 unfolding equalZ
 make-equal a b h k = and-made (make-le a b h) (make-le b a k)
+
+pub equal-made : {a b : ℤ} → a ≡ b → equalZ a b ≡ true
+equal-made {a} {b} e = make-equal a b (omega (arith, ap above e, ap below e)) (omega (arith, ap above e, ap below e))
 
 pub record Member (f : Format) (x : Number) : Type 0 where
   pub significand-high : x .significand < f .base ^ f .digits
