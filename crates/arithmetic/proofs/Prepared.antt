@@ -1,0 +1,133 @@
+-- From a prepared format to the wide format and back: a number of the format is an operand there, and a result that comes back
+-- is the exact value, rounded and delivered.
+use Prim.Native.Nat.{ℕ, _^_, _*_, _≤_, _<_}
+use mathlib.Core.Path.{_≡_, refl, sym, ap, _∙_}
+use mathlib.Core.Bool.{Bool, true, not, xor}
+use native.Mathlib.Nat.{mul-pos}
+use native.Mathlib.Omega.{arith}
+use lib.IntN.{ℤ, pos, negsuc, negℤ, natAbs, _+ℤ_}
+use borrow.Author.Tests.{eq-eqb, ne-eqb}
+use Rattle.theory.specs.Round.{round}
+use Rattle.theory.specs.Round as theory
+use Rattle.theory.specs.Signed.{is-negative}
+use Rattle.theory.proofs.Powers.{pow-pos}
+use Rattle.theory.proofs.Integers.{above, below}
+use Rattle.theory.proofs.Signed.{roundZ-signed}
+use Rattle.format.specs.declared.Direction.{Direction}
+use Rattle.format.specs.declared.Format.{Format}
+use Rattle.format.specs.declared.Prepared.{Prepared}
+use Rattle.format.specs.declared.Refusal.the-variants.{DivisorZero}
+use Rattle.format.specs.Directions.{sense}
+use Rattle.format.specs.Formats.{Scaled, scaleOf}
+use Rattle.format.proofs.Signed.{apart}
+use Rattle.format.proofs.Formats.{Admitted, positional, scaled}
+use Rattle.number.specs.declared.Number.{Number}
+use Rattle.number.specs.declared.Answer.{Answer}
+use Rattle.number.specs.declared.Answer.the-variants.{Refused}
+use Rattle.number.specs.Entry.{Usable}
+use Rattle.number.specs.Exponents.{aboveZero, belowZero}
+use Rattle.number.specs.Numbers.{member, placeOf, magnitude, value, number, delivered}
+use Rattle.number.specs.Signs.{withSign}
+use Rattle.number.proofs.Membership.{members, member-made, known}
+use Rattle.number.proofs.Values.{member-canonical, member-highest, highest-most, number-same, number-of}
+use Rattle.number.proofs.Negation.{signed-member, negated-value}
+use Rattle.wide.specs.declared.Wide.{Wide}
+use Rattle.wide.specs.Operand.{Operand, sizeOf}
+use Rattle.wide.specs.Sum.{summed}
+use Rattle.wide.specs.Product.{multiplied}
+use Rattle.wide.specs.Quotient.{divided}
+use Rattle.wide.proofs.Results.{Result, summed-result, multiplied-result, divided-result}
+use Rattle.arithmetic.specs.Operands.{wideOf}
+use Rattle.arithmetic.specs.Operations.{rounded, roundedQuotient}
+
+-- ---- the parts of Emin
+parts-above : (z : ℤ) → aboveZero z ≡ above z
+parts-above (pos n) = refl
+parts-above (negsuc n) = refl
+
+parts-below : (z : ℤ) → belowZero z ≡ below z
+parts-below (pos n) = refl
+parts-below (negsuc n) = refl
+
+module _ {f : Format} (a : Admitted f) where
+  pub above-most : aboveZero (f .emin) < 2 ^ 28
+  above-most = let r = a .range in omega (arith, parts-above (f .emin), apart (f .emin))
+
+  pub below-most : belowZero (f .emin) < 2 ^ 28
+  below-most = let r = a .range in omega (arith, parts-below (f .emin), apart (f .emin))
+
+  -- ---- a divisor, zero or not
+  some-magnitude : (b : Number) → 1 ≤ b .significand → 1 ≤ magnitude f b
+  unfolding magnitude
+  some-magnitude b h = mul-pos h (pow-pos (a .base-low) (placeOf f b))
+
+  pub divisor-positive : (b : Number) → 1 ≤ b .significand → 1 ≤ magnitude f b * f .base ^ aboveZero (f .emin)
+  divisor-positive b h = mul-pos (some-magnitude b h) (pow-pos (a .base-low) (aboveZero (f .emin)))
+
+  pub divisor-some : (d : theory.Direction) (x y : Number) → 1 ≤ y .significand
+      → roundedQuotient f d x y
+      ≡ rounded f d (xor (x .negative) (y .negative)) (magnitude f x * f .base ^ belowZero (f .emin)) (magnitude f y * f .base ^ aboveZero (f .emin))
+  unfolding roundedQuotient
+  divisor-some d x y h = rw (ne-eqb (magnitude f y) 0 (λ e. omega (arith, some-magnitude y h)))
+
+pub divisor-none : (f : Format) (d : theory.Direction) (x y : Number) → y .significand ≡ 0 → roundedQuotient f d x y ≡ Refused DivisorZero
+unfolding roundedQuotient magnitude
+divisor-none f d x y h =
+    let none : magnitude f y ≡ 0 = rw h (omega arith) in
+    rw (eq-eqb (magnitude f y) 0 none)
+
+-- ---- a number with its sign turned
+module _ {f : Format} (ok : Admitted f) (b : Number) {y : Number} (m : member f b ≡ true) (e : y ≡ withSign b (not (b .negative))) where
+  turned : y ≡ number f (not (b .negative)) (magnitude f b)
+  turned = e ∙ sym (number-of ok (members b ok m) (not (b .negative)))
+
+  pub turned-member : member f y ≡ true
+  turned-member = rw turned (member-made _ ok (signed-member ok (members b ok m) (not (b .negative))))
+
+  pub turned-value : value f y ≡ negℤ (value f b)
+  turned-value = rw turned (negated-value ok (members b ok m))
+
+module _ {q : Prepared} (u : Usable q) where
+  pub scale-is : q .scale ≡ scaleOf (q .format)
+  scale-is = ap (λ (r : Prepared). r .scale) (u .is)
+
+  pub scale-scaled : Scaled (q .scale)
+  scale-scaled = rw scale-is (scaled (known u .admits))
+
+  pub operand : (a : Number) {x : Wide} → member (q .format) a ≡ true → x ≡ wideOf (q .format) a → Operand (q .scale) x
+  operand a m e =
+      let ok = known u .admits in
+      let i = members a ok m in
+      rw (e, scale-is) (record { canonical = member-canonical ok i; place-most = omega (arith, member-highest ok i, highest-most ok) })
+
+  -- ---- a result of the wide format, delivered
+  pub result-delivered : {d : Direction} {negative : Bool} {N D : ℕ} {w : Wide} {r : Answer} → 1 ≤ D → Result (q .format .base) (q .format .digits) d negative N D w
+      → r ≡ delivered (q .format) (w .negative) (sizeOf (q .format .base) w) → r ≡ rounded (q .format) (sense d) negative N D
+  unfolding delivered rounded
+  result-delivered {d} {negative} {N} {D} {w} hD h e =
+      let f : Format = q .format in
+      let v : ℕ = round (f .base) (f .digits) (sense d) negative N D in
+      let same = number-same f (w .negative) negative (sizeOf (f .base) w) v (h .value ∙ roundZ-signed (positional (known u .admits)) hD (sense d) negative N) in
+      e ∙ rw (same, h .size)
+
+  module _ (d : Direction) (a b : Number) {x y : Wide} (ex : x ≡ wideOf (q .format) a) (ey : y ≡ wideOf (q .format) b) where
+    pub sum-result : {w : Wide} → w ≡ summed (q .scale .base) (q .scale .digits) d x y
+        → let v : ℤ = value (q .format) a +ℤ value (q .format) b in Result (q .format .base) (q .format .digits) d (is-negative v) (natAbs v) 1 w
+    unfolding value magnitude
+    sum-result e = rw (e, ex, ey, scale-is) (summed-result (positional (known u .admits)) d (wideOf (q .format) a) (wideOf (q .format) b))
+
+    pub product-result : {up down : ℕ} {w : Wide} → up ≡ aboveZero (q .format .emin) → down ≡ belowZero (q .format .emin)
+        → w ≡ multiplied (q .scale .base) (q .scale .digits) d x y up down
+        → Result (q .format .base) (q .format .digits) d (xor (a .negative) (b .negative))
+        (magnitude (q .format) a * magnitude (q .format) b * q .format .base ^ aboveZero (q .format .emin)) (q .format .base ^ belowZero (q .format .emin)) w
+    unfolding magnitude
+    product-result eu ed e =
+        rw (e, ex, ey, eu, ed, scale-is) (multiplied-result (positional (known u .admits)) d (wideOf (q .format) a) (wideOf (q .format) b) _ _)
+
+    pub quotient-result : {up down : ℕ} {w : Wide} → 1 ≤ b .significand → up ≡ belowZero (q .format .emin) → down ≡ aboveZero (q .format .emin)
+        → w ≡ divided (q .scale .base) (q .scale .digits) d x y up down
+        → Result (q .format .base) (q .format .digits) d (xor (a .negative) (b .negative))
+        (magnitude (q .format) a * q .format .base ^ belowZero (q .format .emin)) (magnitude (q .format) b * q .format .base ^ aboveZero (q .format .emin)) w
+    unfolding magnitude
+    quotient-result h eu ed e =
+        rw (e, ex, ey, eu, ed, scale-is) (divided-result (positional (known u .admits)) d (wideOf (q .format) a) (wideOf (q .format) b) _ _ h)

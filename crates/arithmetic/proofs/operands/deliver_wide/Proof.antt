@@ -1,0 +1,13 @@
+-- `arithmetic::operands::deliver_wide` meets its contract.
+use borrow.Author.Needs.{needs}
+use Rattle.arithmetic.proofs.operands.deliver_wide.Statement.{statement}
+use Rattle.arithmetic.proofs.operands.deliver_wide.Tie as tie
+
+deliver-requires : tie.Need-deliver-requires
+deliver-requires c κs = search needs
+
+returns : tie.Need-returns
+returns c = c .deliver .ensures
+
+pub deliver-wide-spec : {M : Type 1} → statement M
+deliver-wide-spec = tie.close (tie.spec deliver-requires returns)

@@ -1,0 +1,49 @@
+-- `arithmetic::sum::add` meets its contract: the sum in the wide format, delivered.
+use borrow.Author.Needs.{needs}
+use native.Mathlib.Omega.{arith}
+use lib.IntN.{ℤ, natAbs, _+ℤ_}
+use Rattle.theory.specs.Signed.{is-negative}
+use Rattle.number.specs.Numbers.{value}
+use Rattle.wide.proofs.Results.{Result}
+use Rattle.arithmetic.specs.Operations.{roundedZ}
+use Rattle.arithmetic.proofs.Prepared.{scale-scaled, operand, result-delivered, sum-result}
+use Rattle.arithmetic.proofs.sum.add.Statement.{statement}
+use Rattle.arithmetic.proofs.sum.add.Tie as tie
+
+wide-of-requires : tie.Need-wide-of-requires
+wide-of-requires c κs = search needs
+
+wide-of-requires-2 : tie.Need-wide-of-requires-2
+wide-of-requires-2 c κs = search needs
+
+abbrev start : tie.After-wide-of2 → tie.Start
+start c = c .before .before .before
+
+sum-requires : tie.Need-sum-requires
+sum-requires c κs =
+    let s = start c in
+    let p = s .pre in
+    let scale = scale-scaled (p .0) in
+    let x = operand (p .0) (s .args .a) (p .1) (c .before .wide-of .ensures) in
+    let y = operand (p .0) (s .args .b) (p .2) (c .wide-of2 .ensures) in
+    search needs
+
+-- what comes from the wide format
+result : (c : tie.After-sum) → let s = start (c .before) .args in let v : ℤ = value (s .prepared .format) (s .a) +ℤ value (s .prepared .format) (s .b) in
+    Result (s .prepared .format .base) (s .prepared .format .digits) (s .direction) (is-negative v) (natAbs v) 1 (c .sum .result)
+result c =
+    let o = c .before in
+    let s = start o in
+    sum-result (s .pre .0) (s .args .direction) (s .args .a) (s .args .b) (o .before .wide-of .ensures) (o .wide-of2 .ensures) (c .sum .ensures)
+
+deliver-wide-requires : tie.Need-deliver-wide-requires
+deliver-wide-requires c κs = (start (c .before) .pre .0, result c .canonical)
+
+returns : tie.Need-returns
+unfolding roundedZ
+returns c = result-delivered (start (c .before .before) .pre .0) (omega arith) (result (c .before)) (c .deliver-wide .ensures)
+
+pub add-spec : {M : Type 1} → statement M
+add-spec =
+    tie.close
+    (tie.spec wide-of-requires wide-of-requires-2 sum-requires deliver-wide-requires returns)

@@ -1,0 +1,59 @@
+-- `arithmetic::sum::difference` meets its contract.
+use borrow.Author.Needs.{needs}
+use mathlib.Core.Path.{_≡_, sym, _∙_}
+use mathlib.Core.List.{[], _∷_}
+use Rattle.theory.specs.Round as theory
+use Rattle.format.specs.declared.Format.{Format}
+use Rattle.format.specs.declared.Preparation.the-variants.{Ready}
+use Rattle.number.specs.Entry.{entered}
+use Rattle.number.proofs.Entries.{ends}
+use Rattle.arithmetic.specs.Operations.{roundedDifference, subtracted}
+use Rattle.arithmetic.proofs.Entered.{operation, answered}
+use Rattle.arithmetic.proofs.sum.difference.Statement.{statement}
+use Rattle.arithmetic.proofs.sum.difference.Tie as tie
+
+enter-operation-requires : tie.Need-enter-operation-requires
+enter-operation-requires c κs = search needs
+
+enum-known-why : tie.Need-enum-known-why
+enum-known-why c = search needs
+
+enum-known-prepared : tie.Need-enum-known-prepared
+enum-known-prepared c = search needs
+
+-- the checks were passed
+entrance : (c : tie.After-prepared) → let s = c .before .before .before .args in
+    entered (s .format) (s .direction ∷ []) (s .a ∷ s .b ∷ []) ≡ Ready (c .prepared .given .0 .0)
+entrance c = sym (c .before .before .enter-operation .ensures) ∙ c .prepared .given .1
+
+direction-of-requires : tie.Need-direction-of-requires
+direction-of-requires c κs = operation _ _ _ _ (entrance (c .before)) .directed
+
+subtract-requires : tie.Need-subtract-requires
+subtract-requires c κs = let o = operation _ _ _ _ (entrance (c .before .before)) in (o .usable, o .first, o .second)
+
+returns : tie.Need-returns
+unfolding subtracted
+returns c =
+    let w = c .before in
+    ends _ _ _ _ _ (sym (w .before .before .enter-operation .ensures) ∙ w .why .given .1)
+
+returns-2 : tie.Need-returns-2
+unfolding subtracted
+returns-2 c =
+    let d = c .before in
+    let p = d .before .before in
+    let s = p .before .before .before .args in
+    answered _ _ _ _ (entrance p) (λ (f : Format) (t : theory.Direction). roundedDifference f t (s .a) (s .b)) (d .direction-of .ensures) (c .subtract .ensures)
+
+pub difference-spec : {M : Type 1} → statement M
+difference-spec =
+    tie.close
+    (tie.spec
+    enter-operation-requires
+    enum-known-why
+    enum-known-prepared
+    direction-of-requires
+    subtract-requires
+    returns
+    returns-2)
