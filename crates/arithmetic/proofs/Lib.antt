@@ -1,3 +1,9 @@
 -- The laws that the operations' proofs go by, and the laws that a user expects.
 pub mod Prepared
 pub mod Entered
+-- what an answer says of the exact result
+pub mod Outcome
+pub mod Calls
+pub mod Algebra
+pub mod Enclosure
+pub mod Fractions

@@ -41,11 +41,11 @@ use Rattle.arithmetic.specs.Operands.{wideOf}
 use Rattle.arithmetic.specs.Operations.{rounded, roundedQuotient}
 
 -- ---- the parts of Emin
-parts-above : (z : ℤ) → aboveZero z ≡ above z
+pub parts-above : (z : ℤ) → aboveZero z ≡ above z
 parts-above (pos n) = refl
 parts-above (negsuc n) = refl
 
-parts-below : (z : ℤ) → belowZero z ≡ below z
+pub parts-below : (z : ℤ) → belowZero z ≡ below z
 parts-below (pos n) = refl
 parts-below (negsuc n) = refl
 
@@ -70,11 +70,13 @@ module _ {f : Format} (a : Admitted f) where
   unfolding roundedQuotient
   divisor-some d x y h = rw (ne-eqb (magnitude f y) 0 (λ e. omega (arith, some-magnitude y h)))
 
+pub no-magnitude : (f : Format) (x : Number) → x .significand ≡ 0 → magnitude f x ≡ 0
+unfolding magnitude
+no-magnitude f x h = rw h (omega arith)
+
 pub divisor-none : (f : Format) (d : theory.Direction) (x y : Number) → y .significand ≡ 0 → roundedQuotient f d x y ≡ Refused DivisorZero
-unfolding roundedQuotient magnitude
-divisor-none f d x y h =
-    let none : magnitude f y ≡ 0 = rw h (omega arith) in
-    rw (eq-eqb (magnitude f y) 0 none)
+unfolding roundedQuotient
+divisor-none f d x y h = rw (eq-eqb (magnitude f y) 0 (no-magnitude f y h))
 
 -- ---- a number with its sign turned
 module _ {f : Format} (ok : Admitted f) (b : Number) {y : Number} (m : member f b ≡ true) (e : y ≡ withSign b (not (b .negative))) where

@@ -1,0 +1,186 @@
+-- Sum and product commute, the difference is the sum with the second number negated, and x + 0, x × 1 and x ÷ 1 are x.
+use Prim.Native.Nat.{ℕ, zero, suc, _+_, _^_, _-_, _≤_, _<_}
+use mathlib.Core.Path.{_≡_, refl, sym, ap, ap₂, _∙_}
+use mathlib.Core.Bool.{Bool, true, false, not, xor}
+use mathlib.Core.List.{List, [], _∷_}
+use native.Mathlib.Nat.{mul-comm, mul-le-mul-right, pow-zero}
+use native.Mathlib.Decide.{decLe}
+use native.Mathlib.Omega.{arith}
+use lib.IntN.{ℤ, pos, negℤ, natAbs, _+ℤ_, _-ℤ_, +ℤ-comm}
+use Rattle.theory.specs.Tests.{_and_}
+use Rattle.theory.specs.Signed.{signed}
+use Rattle.theory.proofs.Powers.{pow-add, pow-pos, pow-mono, pow-half}
+use Rattle.theory.proofs.Wide.{wide-pow}
+use Rattle.theory.proofs.Integers.{above, neg-above, size-parts, size-signed}
+use Rattle.format.specs.declared.Format.{Format}
+use Rattle.format.specs.declared.Verdict.{Verdict}
+use Rattle.format.specs.declared.Verdict.the-variants as verdict
+use Rattle.format.specs.declared.Preparation.the-variants as prepared
+use Rattle.format.specs.Formats.{preparedOf, highestPlace}
+use Rattle.format.specs.Directions.{direction}
+use Rattle.format.proofs.Formats.{Admitted, admits, positional, distances}
+use Rattle.number.specs.declared.Number.{Number}
+use Rattle.number.specs.declared.Answer.the-variants.{Value, Refused}
+use Rattle.number.specs.Exponents.{aboveZero, belowZero}
+use Rattle.number.specs.Numbers.{member, magnitude, value, greatest, number}
+use Rattle.number.specs.Entry.{all, entry, after, entered}
+use Rattle.number.specs.Signs.{negated}
+use Rattle.number.proofs.Membership.{Member, members, member-made}
+use Rattle.number.proofs.Values.{member-greatest, number-value, number-member}
+use Rattle.number.proofs.Entries.{Passed, passed, one-member}
+use Rattle.number.proofs.Negation.{signed-member, negated-value}
+use Rattle.wide.proofs.Signs.{sum-none}
+use Rattle.wide.proofs.Sizes.{greatest-below}
+use Rattle.arithmetic.specs.Operations.{roundedZ, roundedProduct, summed, subtracted, multiplied, divided}
+use Rattle.arithmetic.proofs.Prepared.{no-magnitude, parts-above, parts-below, divisor-positive, divisor-some}
+use Rattle.arithmetic.proofs.Outcome.{rounded-exact, roundedZ-exact}
+use Rattle.arithmetic.proofs.Calls.{Checked, entry-passed}
+
+-- the checks depend on what the numbers' tests say together
+entry-same : (f : Format) (d : ℕ) (xs ys : List Number) → all (member f) xs ≡ all (member f) ys → entry f (d ∷ []) xs ≡ entry f (d ∷ []) ys
+unfolding entry
+entry-same f d xs ys e = rw e
+
+-- ---- sum and product commute, refused or not
+and-swap : (s t : Bool) → s and t and true ≡ t and s and true
+unfolding _and_
+and-swap true true = refl
+and-swap true false = refl
+and-swap false true = refl
+and-swap false false = refl
+
+xor-swap : (s t : Bool) → xor s t ≡ xor t s
+unfolding xor
+xor-swap true true = refl
+xor-swap true false = refl
+xor-swap false true = refl
+xor-swap false false = refl
+
+module _ (f : Format) (d : ℕ) (a b : Number) where
+  entry-swap : entry f (d ∷ []) (a ∷ b ∷ []) ≡ entry f (d ∷ []) (b ∷ a ∷ [])
+  unfolding all
+  entry-swap = entry-same f d (a ∷ b ∷ []) (b ∷ a ∷ []) (and-swap (member f a) (member f b))
+
+  pub summed-commutes : summed f d a b ≡ summed f d b a
+  unfolding summed
+  summed-commutes = ap₂ (λ (v : Verdict) (z : ℤ). after v Refused (roundedZ f (direction d) z)) entry-swap (+ℤ-comm (value f a) (value f b))
+
+  pub multiplied-commutes : multiplied f d a b ≡ multiplied f d b a
+  unfolding multiplied roundedProduct
+  multiplied-commutes = rw (entry-swap, xor-swap (a .negative) (b .negative), mul-comm (magnitude f a) (magnitude f b))
+
+  -- ---- the difference is the sum with the second number negated
+  pub subtracted-negated : {c : Number} → negated f b ≡ Value c → subtracted f d a b ≡ summed f d a c
+  unfolding negated subtracted summed entered after all
+  subtracted-negated {c} h = go (entry f [] (b ∷ [])) refl
+    where
+      turned : Passed f [] (b ∷ []) (preparedOf f) → Value (number f (not (b .negative)) (magnitude f b)) ≡ Value c → subtracted f d a b ≡ summed f d a c
+      turned p e =
+          let ok = admits f (p .format) in
+          let i = members b ok (one-member p) in
+          let same : number f (not (b .negative)) (magnitude f b) ≡ c = cc in
+          let in-format : member f c ≡ true = rw (← same) (member-made _ ok (signed-member ok i (not (b .negative)))) in
+          let turned-value : value f c ≡ negℤ (value f b) = rw (← same) (negated-value ok i) in
+          ap₂ (λ (v : Verdict) (z : ℤ). after v Refused (roundedZ f (direction d) (value f a +ℤ z)))
+          (entry-same f d (a ∷ b ∷ []) (a ∷ c ∷ []) (rw (one-member p, in-format))) (sym turned-value)
+
+      go : (v : Verdict) → entry f [] (b ∷ []) ≡ v → subtracted f d a b ≡ summed f d a c
+      go verdict.Passed e =
+          turned (passed f [] (b ∷ []) (ap (λ (v : Verdict). after v prepared.Refused (prepared.Ready (preparedOf f))) e))
+          (sym (ap (λ (v : Verdict). after v Refused (Value (number f (not (b .negative)) (magnitude f b)))) e) ∙ h)
+      go (verdict.Refused why) e =
+          let k : Refused why ≡ Value c = sym (ap (λ (v : Verdict). after v Refused (Value (number f (not (b .negative)) (magnitude f b)))) e) ∙ h in
+          absurd (let z : _≡_ {A = ℕ} 0 1 = cc in omega arith)
+
+-- ---- zero and one
+-- u is 1, which is β ^ -Emin units: no format with Emin above 0 has it
+pub record One (f : Format) (u : Number) : Type 0 where
+  pub low : aboveZero (f .emin) ≡ 0
+  pub value : value f u ≡ pos (f .base ^ belowZero (f .emin))
+
+-- a sign that makes a number above 0
+plus : (t : Bool) (n m : ℕ) → signed t n ≡ pos m → 1 ≤ m → t ≡ false
+plus true n m e h = absurd (omega (arith, neg-above (pos n), ap above e))
+plus false n m e h = refl
+
+xor-plus : (s t : Bool) → t ≡ false → xor s t ≡ s
+unfolding xor
+xor-plus true t e = rw e
+xor-plus false t e = rw e
+
+module _ {f : Format} (ok : Admitted f) {u : Number} (o : One f u) where
+  one-size : magnitude f u ≡ f .base ^ belowZero (f .emin)
+  unfolding value
+  one-size = sym (size-signed (u .negative) (magnitude f u)) ∙ ap natAbs (o .value)
+
+  one-plus : u .negative ≡ false
+  unfolding value
+  one-plus = plus (u .negative) (magnitude f u) (f .base ^ belowZero (f .emin)) (o .value) (pow-pos (ok .base-low) (belowZero (f .emin)))
+
+  one-unit : f .base ^ aboveZero (f .emin) ≡ 1
+  one-unit = rw (o .low) (pow-zero (f .base))
+
+  one-some : 1 ≤ u .significand
+  one-some = by (u .significand) refl
+    where
+      by : (m : ℕ) → u .significand ≡ m → 1 ≤ m
+      by zero e = absurd (omega (arith, one-size, no-magnitude f u e, pow-pos (ok .base-low) (belowZero (f .emin))))
+      by (suc m) e = omega arith
+
+module _ {f : Format} {d : ℕ} {x u : Number} (c : Checked f d x u) where
+  pub summed-zero : u .significand ≡ 0 → summed f d x u ≡ Value x
+  unfolding summed after value
+  summed-zero z =
+      let same : value f x +ℤ value f u ≡ value f x =
+      rw (no-magnitude f u z) (sum-none (x .negative) (u .negative) (magnitude f x)) in
+      rw (entry-passed f d x u c, after) (roundedZ-exact (c .admits) (direction d) (c .first) (value f x +ℤ value f u) same)
+
+  -- the exact result has the sign and the magnitude of x
+  module _ (o : One f u) where
+    own : signed (xor (x .negative) (u .negative)) (magnitude f x) ≡ value f x
+    unfolding value
+    own = rw (xor-plus (x .negative) (u .negative) (one-plus (c .admits) o))
+
+    pub multiplied-one : multiplied f d x u ≡ Value x
+    unfolding multiplied after roundedProduct
+    multiplied-one =
+        rw (entry-passed f d x u c, after)
+        (rounded-exact (c .admits) (direction d) (c .first) _ _ (pow-pos (c .admits .base-low) (belowZero (f .emin)))
+        (rw (one-unit (c .admits) o, one-size (c .admits) o) (omega arith)) own)
+
+    pub divided-one : divided f d x u ≡ Value x
+    unfolding divided after
+    divided-one =
+        let some = one-some (c .admits) o in
+        rw (entry-passed f d x u c, after, divisor-some (c .admits) (direction d) x u some)
+        (rounded-exact (c .admits) (direction d) (c .first) _ _ (divisor-positive (c .admits) u some)
+        (rw (one-unit (c .admits) o, one-size (c .admits) o) (omega arith)) own)
+
+-- 1 is a number of the format exactly where Emin ≤ 0 and -p < Emax
+module _ {f : Format} (ok : Admitted f) where
+  -- Emax - Emin, for Emin at most 0
+  reach : aboveZero (f .emin) ≡ 0 → highestPlace f + belowZero (f .emax) ≡ aboveZero (f .emax) + belowZero (f .emin)
+  reach low =
+      let d = distances (ok .range) in
+      omega (arith, size-parts (f .emax -ℤ f .emin), parts-above (f .emin), parts-below (f .emin), parts-above (f .emax), parts-below (f .emax))
+
+  pub one-there : aboveZero (f .emin) ≡ 0 → belowZero (f .emax) < aboveZero (f .emax) + f .digits
+      → let u : Number = number f false (f .base ^ belowZero (f .emin)) in Member f u × One f u
+  unfolding greatest
+  one-there low high =
+      let k : ℕ = belowZero (f .emin) in
+      let p : ℕ = f .digits - 1 in
+      let w = wide-pow (positional ok) k in
+      let lead : f .base ^ p ≤ f .base ^ f .digits - 1 = omega (arith, pow-half (ok .base-low) {i = p} {j = f .digits} (omega (arith, ok .digits-low)), pow-pos (ok .base-low) p) in
+      let most : f .base ^ k ≤ greatest f =
+      omega (arith, pow-mono (ok .base-low) {i = k} {j = p + highestPlace f} (omega (arith, reach low)), pow-add (f .base) p (highestPlace f), mul-le-mul-right (f .base ^ highestPlace f) lead) in
+      (number-member ok w false most, record { low = low; value = number-value ok w false })
+
+  pub one-only : {u : Number} → Member f u → One f u → belowZero (f .emax) < aboveZero (f .emax) + f .digits
+  unfolding greatest
+  one-only i o = by (decLe (f .digits + highestPlace f) (belowZero (f .emin)))
+    where
+      by : Dec (f .digits + highestPlace f ≤ belowZero (f .emin)) → belowZero (f .emax) < aboveZero (f .emax) + f .digits
+      by (yes l) =
+          absurd (omega (arith, pow-mono (ok .base-low) l, one-size ok o, member-greatest ok i, greatest-below (positional ok) (highestPlace f)))
+      by (no l) = omega (arith, reach (o .low))
