@@ -1,0 +1,51 @@
+-- From the checks to the inner functions: what a passed check gives them.
+use Prim.Native.Nat.{ℕ}
+use mathlib.Core.Path.{_≡_, ap, _∙_}
+use mathlib.Core.Bool.{true}
+use mathlib.Core.List.{List, [], _∷_}
+use Rattle.theory.proofs.Tests.{and-left, and-right}
+use Rattle.format.specs.declared.Format.{Format}
+use Rattle.format.specs.declared.Prepared.{Prepared}
+use Rattle.format.specs.Directions.{isDirection}
+use Rattle.number.specs.declared.Number.{Number}
+use Rattle.number.specs.Numbers.{member}
+use Rattle.number.specs.Entry.{all}
+use Rattle.number.proofs.Entries.{Passed}
+
+-- the three directions
+pub record Directed (d₁ d₂ d₃ : ℕ) : Type 0 where
+  pub first : isDirection d₁ ≡ true
+  pub second : isDirection d₂ ≡ true
+  pub third : isDirection d₃ ≡ true
+
+pub directed : {f : Format} {d₁ d₂ d₃ : ℕ} {numbers : List Number} {q : Prepared} → Passed f (d₁ ∷ d₂ ∷ d₃ ∷ []) numbers q → Directed d₁ d₂ d₃
+unfolding all
+directed p =
+    let rest = and-right _ _ (p .directed) in
+    record { first = and-left _ _ (p .directed); second = and-left _ _ rest; third = and-left _ _ (and-right _ _ rest) }
+
+-- a number of the format is one of the prepared format
+pub prepared-member : {f : Format} {directions : List ℕ} {numbers : List Number} {q : Prepared} (x : Number) → Passed f directions numbers q → member f x ≡ true → member (q .format) x ≡ true
+prepared-member x p h = ap (λ (r : Prepared). member (r .format) x) (p .is) ∙ h
+
+-- the five numbers of the check
+pub record Five (f : Format) (a b x z y : Number) : Type 0 where
+  pub first : member f a ≡ true
+  pub second : member f b ≡ true
+  pub third : member f x ≡ true
+  pub fourth : member f z ≡ true
+  pub fifth : member f y ≡ true
+
+pub five : {f : Format} {a b x z y : Number} {q : Prepared} → Passed f [] (a ∷ b ∷ x ∷ z ∷ y ∷ []) q → Five f a b x z y
+unfolding all
+five p =
+    let r₁ = and-right _ _ (p .members) in
+    let r₂ = and-right _ _ r₁ in
+    let r₃ = and-right _ _ r₂ in
+    record {
+      first = and-left _ _ (p .members);
+      second = and-left _ _ r₁;
+      third = and-left _ _ r₂;
+      fourth = and-left _ _ r₃;
+      fifth = and-left _ _ (and-right _ _ r₃);
+    }

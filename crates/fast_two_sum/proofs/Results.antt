@@ -1,0 +1,82 @@
+-- A step's answer: a number of the format with the rounded value, or refusal 5 where that is beyond the greatest number.
+use Prim.Native.Nat.{ℕ, _≤_, _<_}
+use mathlib.Core.Path.{_≡_, refl, sym, ap, subst, _∙_}
+use mathlib.Core.Bool.{Bool, true, false}
+use mathlib.Core.Logic.{_⊎_, inl, inr, ⊎-elim}
+use native.Mathlib.Omega.{arith}
+use lib.Dec.{leb}
+use lib.IntN.{ℤ, natAbs}
+use borrow.Author.Tests.{leb-true, leb-false}
+use Rattle.theory.specs.Wide.{Wide}
+use Rattle.theory.specs.Round.{Direction, round}
+use Rattle.theory.specs.Signed.{is-negative, roundZ}
+use Rattle.theory.proofs.Tests.{refuted, unless-passed, unless-failed}
+use Rattle.theory.proofs.Round.{round-wide}
+use Rattle.theory.proofs.Integers.{size-signed}
+use Rattle.format.specs.declared.Format.{Format}
+use Rattle.format.specs.declared.Refusal.the-variants.{TooLarge}
+use Rattle.format.proofs.Formats.{Admitted, positional}
+use Rattle.number.specs.declared.Number.{Number}
+use Rattle.number.specs.declared.Answer.{Answer}
+use Rattle.number.specs.declared.Answer.the-variants.{Value, Refused}
+use Rattle.number.specs.Numbers.{equalZ, member, magnitude, value, greatest, number, delivered}
+use Rattle.number.proofs.Membership.{Member, member-made, equal-true}
+use Rattle.number.proofs.Values as values
+use Rattle.arithmetic.specs.Operations.{rounded, roundedZ}
+use Rattle.fast_two_sum.specs.Calls.{isResult}
+use Rattle.fast_two_sum.proofs.Bounds.{value-size}
+
+-- the answer is a number y of the format that has the value v
+pub record Given (f : Format) (answer : Answer) (v : ℤ) (y : Number) : Type 0 where
+  pub is : answer ≡ Value y
+  pub number : Member f y
+  pub same : value f y ≡ v
+
+-- the answer is refusal 5, and v is beyond the greatest number
+pub record Beyond (f : Format) (answer : Answer) (v : ℤ) : Type 0 where
+  pub is : answer ≡ Refused TooLarge
+  pub beyond : greatest f < natAbs v
+
+module _ {f : Format} (a : Admitted f) (d : Direction) (z : ℤ) where
+  pub rounded-cases : ((y : Number) × Given f (roundedZ f d z) (roundZ (f .base) (f .digits) d z 1) y) ⊎ Beyond f (roundedZ f d z) (roundZ (f .base) (f .digits) d z 1)
+  unfolding roundedZ rounded delivered roundZ
+  rounded-cases = by (leb n (greatest f)) refl
+    where
+      n : ℕ
+      n = round (f .base) (f .digits) d (is-negative z) (natAbs z) 1
+
+      w : Wide (f .base) (f .digits) n
+      w = round-wide (positional a) (natAbs z) (omega arith) d (is-negative z)
+
+      by : (t : Bool) → leb n (greatest f) ≡ t
+          → ((y : Number) × Given f (roundedZ f d z) (roundZ (f .base) (f .digits) d z 1) y) ⊎ Beyond f (roundedZ f d z) (roundZ (f .base) (f .digits) d z 1)
+      by true e =
+          inl (
+            number f (is-negative z) n,
+            record {
+              is = unless-passed _ _ e;
+              number = values.number-member a w (is-negative z) (leb-true _ _ e);
+              same = values.number-value a w (is-negative z);
+            },
+          )
+      by false e =
+          inr
+          (record {
+            is = unless-failed _ _ e;
+            beyond = subst (λ (k : ℕ). greatest f < k) (sym (size-signed (is-negative z) n)) (leb-false _ _ e);
+          })
+
+  -- a number that a step gives is in the format
+  pub rounded-member : {y : Number} → roundedZ f d z ≡ Value y → member f y ≡ true
+  rounded-member {y} h = ⊎-elim (λ g. by (g .0) (g .1)) (λ b. absurd (let e = sym h ∙ b .is in let o : _≡_ {A = ℕ} 0 1 = cc in omega arith)) rounded-cases
+    where
+      by : (x : Number) → Given f (roundedZ f d z) (roundZ (f .base) (f .digits) d z 1) x → member f y ≡ true
+      by x g = let e : Value x ≡ Value y = sym (g .is) ∙ h in let same : x ≡ y = cc in subst (λ (n : Number). member f n ≡ true) same (member-made x a (g .number))
+
+  -- and has the value that a number of the format is compared with
+  pub result-is : {x : Number} → Member f x → isResult f (roundedZ f d z) x ≡ equalZ (value f x) (roundZ (f .base) (f .digits) d z 1)
+  unfolding isResult
+  result-is {x} i =
+      ⊎-elim (λ g. ap (λ (s : Answer). isResult f s x) (g .1 .is) ∙ ap (equalZ (value f x)) (g .1 .same))
+      (λ b. ap (λ (s : Answer). isResult f s x) (b .is) ∙ refuted (λ h. omega (arith, b .beyond, ap natAbs (equal-true _ _ h), value-size f x, values.member-greatest a i)))
+      rounded-cases

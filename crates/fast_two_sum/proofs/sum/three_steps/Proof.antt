@@ -1,0 +1,119 @@
+-- `fast_two_sum::sum::three_steps` meets its contract.
+use borrow.Author.Needs.{needs}
+use mathlib.Core.Path.{_≡_, sym, _∙_}
+use mathlib.Core.Bool.{true}
+use Rattle.format.specs.declared.Refusal.the-variants.{TooLarge}
+use Rattle.format.specs.Directions.{sense}
+use Rattle.number.specs.declared.Answer.the-variants.{Value}
+use Rattle.number.specs.Numbers.{member}
+use Rattle.number.proofs.Membership.{known}
+use Rattle.arithmetic.specs.Operations.{roundedSum, roundedDifference}
+use Rattle.fast_two_sum.specs.declared.StepsAnswer.the-variants.{Refused}
+use Rattle.fast_two_sum.proofs.Results.{rounded-member}
+use Rattle.fast_two_sum.proofs.Chain.{first-refused, second-refused, third-refused, three-given}
+use Rattle.fast_two_sum.proofs.sum.three_steps.Statement.{statement}
+use Rattle.fast_two_sum.proofs.sum.three_steps.Tie as tie
+
+add-requires : tie.Need-add-requires
+add-requires c κs = search needs
+
+enum-known-sum : tie.Need-enum-known-sum
+enum-known-sum c = search needs
+
+enum-told : tie.Need-enum-told
+enum-told c = search needs
+
+refused-step-requires : tie.Need-refused-step-requires
+refused-step-requires c κs = search needs
+
+returns : tie.Need-returns
+returns c =
+    let k = c .before in
+    c .refused-step .ensures ∙ first-refused _ _ _ _ _ _ (λ x. Refused TooLarge) (k .enum-told .given .1) (k .before .before .add .ensures)
+
+-- ---- after the first step
+abbrev start₁ : tie.After-sum → tie.Start
+start₁ c = c .before .before .before
+
+first : (c : tie.After-sum) → roundedSum (start₁ c .args .prepared .format) (sense (start₁ c .args .first)) (start₁ c .args .a) (start₁ c .args .b) ≡ Value (c .sum .given .0 .0)
+first c = sym (c .before .before .add .ensures) ∙ c .sum .given .1
+
+first-member : (c : tie.After-sum) → member (start₁ c .args .prepared .format) (c .sum .given .0 .0) ≡ true
+first-member c = rounded-member (known (start₁ c .pre .0) .admits) _ _ (first c)
+
+subtract-requires : tie.Need-subtract-requires
+subtract-requires c κs = let k = c .before in (start₁ k .pre .0, first-member k, start₁ k .pre .1)
+
+enum-known-difference : tie.Need-enum-known-difference
+enum-known-difference c = search needs
+
+enum-told-2 : tie.Need-enum-told-2
+enum-told-2 c = search needs
+
+refused-step-requires-2 : tie.Need-refused-step-requires-2
+refused-step-requires-2 c κs = search needs
+
+returns-2 : tie.Need-returns-2
+returns-2 c =
+    let k = c .before in
+    let s = k .before .before in
+    c .refused-step2 .ensures ∙ second-refused _ _ _ _ _ _ (λ x. Refused TooLarge) (first (s .before .before)) (k .enum-told2 .given .1) (s .subtract .ensures)
+
+-- ---- after the second
+abbrev start₂ : tie.After-difference → tie.Start
+start₂ c = start₁ (c .before .before .before .before)
+
+second : (c : tie.After-difference) → roundedDifference (start₂ c .args .prepared .format) (sense (start₂ c .args .second)) (c .before .before .before .before .sum .given .0 .0) (start₂ c .args .a)
+    ≡ Value (c .difference .given .0 .0)
+second c = sym (c .before .before .subtract .ensures) ∙ c .difference .given .1
+
+second-member : (c : tie.After-difference) → member (start₂ c .args .prepared .format) (c .difference .given .0 .0) ≡ true
+second-member c = rounded-member (known (start₂ c .pre .0) .admits) _ _ (second c)
+
+subtract-requires-2 : tie.Need-subtract-requires-2
+subtract-requires-2 c κs = let k = c .before in (start₂ k .pre .0, start₂ k .pre .2, second-member k)
+
+enum-known-rest : tie.Need-enum-known-rest
+enum-known-rest c = search needs
+
+enum-told-3 : tie.Need-enum-told-3
+enum-told-3 c = search needs
+
+refused-step-requires-3 : tie.Need-refused-step-requires-3
+refused-step-requires-3 c κs = search needs
+
+returns-3 : tie.Need-returns-3
+returns-3 c =
+    let k = c .before in
+    let s = k .before .before in
+    let d = s .before .before in
+    c .refused-step3 .ensures
+    ∙ third-refused _ _ _ _ _ _ (λ x. Refused TooLarge) (first (d .before .before .before .before)) (second d) (k .enum-told3 .given .1) (s .subtract2 .ensures)
+
+returns-4 : tie.Need-returns-4
+returns-4 c =
+    let r = c .before in
+    let s = r .before .before in
+    let d = s .before .before in
+    sym (three-given _ _ _ _ _ _ (first (d .before .before .before .before)) (second d) (sym (s .subtract2 .ensures) ∙ r .rest .given .1))
+
+pub three-steps-spec : {M : Type 1} → statement M
+three-steps-spec =
+    tie.close
+    (tie.spec
+    add-requires
+    enum-known-sum
+    enum-told
+    refused-step-requires
+    returns
+    subtract-requires
+    enum-known-difference
+    enum-told-2
+    refused-step-requires-2
+    returns-2
+    subtract-requires-2
+    enum-known-rest
+    enum-told-3
+    refused-step-requires-3
+    returns-3
+    returns-4)

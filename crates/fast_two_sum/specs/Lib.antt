@@ -1,0 +1,3 @@
+-- Demand 3, and what the three-step sum and its check answer.
+pub mod Triples
+pub mod Calls

@@ -1,0 +1,27 @@
+// The three-step sum (FastTwoSum) of two numbers of a binary format, and the check whether three numbers are such a sum.
+pub mod check;
+pub mod entry;
+pub mod sum;
+
+use format::Refusal;
+use number::Number;
+
+// x from a + b, z from x - a, y from b - z.
+pub struct Steps {
+    pub x: Number,
+    pub z: Number,
+    pub y: Number,
+}
+
+// The three steps, or the refusal of the first that refuses.
+pub enum StepsAnswer {
+    Triple(Steps),
+    Refused(Refusal),
+}
+
+// Whether three numbers are faithful to the three steps.
+pub enum Checked {
+    Yes,
+    No,
+    Refused(Refusal),
+}
