@@ -7,3 +7,4 @@ pub mod Calls
 pub mod Algebra
 pub mod Enclosure
 pub mod Fractions
+pub mod Results

@@ -1,0 +1,59 @@
+-- Two accounts of IEEE 754 agree: for finite patterns the pattern calls in direction 0 answer what lib.Ieee's operations on the
+-- floats of those patterns give, written as a pattern; refusal 5 is given exactly where lib.Ieee gives an infinity.
+use Prim.Native.Nat.{ℕ, _*_, _^_, _≤_}
+use mathlib.Core.Path.{_≡_, refl, sym, ap, _∙_}
+use mathlib.Core.Bool.{true, xor}
+use native.Mathlib.Nat.{mul-one}
+use native.Mathlib.Omega.{arith}
+use lib.Ieee.{ofBits, add, sub, mul, div}
+use lib.Ieee as ieee
+use borrow.Author.Tests.{ne-eqb}
+use Rattle.theory.specs.Round.{nearest-even}
+use Rattle.theory.proofs.Tests.{and-made, unless-passed}
+use Rattle.format.specs.Directions.{isDirection, direction}
+use Rattle.format.specs.Published.{binary32}
+use Rattle.number.specs.declared.Number.{Number}
+use Rattle.number.specs.declared.Answer.{Answer}
+use Rattle.number.specs.Numbers.{magnitude}
+use Rattle.arithmetic.specs.Operations.{rounded, roundedZ, roundedSum, roundedDifference, roundedProduct, roundedQuotient}
+use Rattle.binary32.specs.Patterns.{finite, numberRead, answerWritten}
+use Rattle.binary32.proofs.RoundTrips.{read-made}
+use Rattle.binary32.proofs.StandardPatterns.{patterned, pattern-sum, pattern-difference, pattern-product, pattern-quotient}
+use Rattle.binary32_arithmetic.specs.Calls.{onPatterns, sumOf, differenceOf, productOf, quotientOf, patternSum, patternDifference, patternProduct, patternQuotient}
+
+module _ (a b : ℕ) (ha : finite a ≡ true) (hb : finite b ≡ true) where
+  -- the operation of format 2 on what was read
+  called : (operation : Number → Number → Answer) → onPatterns operation a b ≡ answerWritten (operation (numberRead a) (numberRead b))
+  unfolding onPatterns
+  called operation = unless-passed _ _ (and-made ha hb)
+
+  pub sum-agrees : patternSum 0 a b ≡ patterned (add ieee.binary32 (ofBits ieee.binary32 a) (ofBits ieee.binary32 b))
+  unfolding patternSum sumOf isDirection direction roundedZ rounded
+  sum-agrees = unless-passed _ _ refl ∙ called (roundedSum binary32 nearest-even) ∙ sym (pattern-sum a b (read-made a ha) (read-made b hb))
+
+  pub difference-agrees : patternDifference 0 a b ≡ patterned (sub ieee.binary32 (ofBits ieee.binary32 a) (ofBits ieee.binary32 b))
+  unfolding patternDifference differenceOf isDirection direction roundedZ rounded
+  difference-agrees = unless-passed _ _ refl ∙ called (roundedDifference binary32 nearest-even) ∙ sym (pattern-difference a b (read-made a ha) (read-made b hb))
+
+  pub product-agrees : patternProduct 0 a b ≡ patterned (mul ieee.binary32 (ofBits ieee.binary32 a) (ofBits ieee.binary32 b))
+  unfolding patternProduct productOf isDirection direction roundedProduct rounded
+  product-agrees =
+      unless-passed _ _ refl ∙ called (roundedProduct binary32 nearest-even)
+      ∙ ap (λ (n : ℕ). answerWritten (rounded binary32 nearest-even (xor (numberRead a .negative) (numberRead b .negative)) n (2 ^ 149)))
+      (mul-one (magnitude binary32 (numberRead a) * magnitude binary32 (numberRead b)))
+      ∙ sym (pattern-product a b (read-made a ha) (read-made b hb))
+
+  quotient-is : 1 ≤ magnitude binary32 (numberRead b) → roundedQuotient binary32 nearest-even (numberRead a) (numberRead b)
+      ≡ rounded binary32 nearest-even (xor (numberRead a .negative) (numberRead b .negative)) (magnitude binary32 (numberRead a) * 2 ^ 149) (magnitude binary32 (numberRead b))
+  unfolding roundedQuotient
+  quotient-is h =
+      rw (ne-eqb (magnitude binary32 (numberRead b)) 0 (λ e. omega arith))
+      (ap (λ (n : ℕ). rounded binary32 nearest-even (xor (numberRead a .negative) (numberRead b .negative)) (magnitude binary32 (numberRead a) * 2 ^ 149) n)
+      (mul-one (magnitude binary32 (numberRead b))))
+
+  pub quotient-agrees : 1 ≤ magnitude binary32 (numberRead b)
+      → patternQuotient 0 a b ≡ patterned (div ieee.binary32 (ofBits ieee.binary32 a) (ofBits ieee.binary32 b))
+  unfolding patternQuotient quotientOf isDirection direction rounded
+  quotient-agrees h =
+      unless-passed _ _ refl ∙ called (roundedQuotient binary32 nearest-even) ∙ ap answerWritten (quotient-is h)
+      ∙ sym (pattern-quotient a b (read-made a ha) (read-made b hb) h)

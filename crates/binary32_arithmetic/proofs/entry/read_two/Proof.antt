@@ -1,0 +1,54 @@
+-- `binary32_arithmetic::entry::read_two` meets its contract.
+use borrow.Author.Needs.{needs}
+use mathlib.Core.Path.{sym, _∙_}
+use Rattle.binary32_arithmetic.proofs.Reading.{first-refused, second-refused, both-read}
+use Rattle.binary32_arithmetic.proofs.entry.read_two.Statement.{statement}
+use Rattle.binary32_arithmetic.proofs.entry.read_two.Tie as tie
+
+read-pattern-requires : tie.Need-read-pattern-requires
+read-pattern-requires c κs = search needs
+
+enum-known-first : tie.Need-enum-known-first
+enum-known-first c = search needs
+
+enum-told : tie.Need-enum-told
+enum-told c = search needs
+
+returns : tie.Need-returns
+returns c = first-refused _ _ (sym (c .before .before .read-pattern .ensures) ∙ c .enum-told .given .1)
+
+read-pattern-requires-2 : tie.Need-read-pattern-requires-2
+read-pattern-requires-2 c κs = search needs
+
+enum-known-second : tie.Need-enum-known-second
+enum-known-second c = search needs
+
+enum-told-2 : tie.Need-enum-told-2
+enum-told-2 c = search needs
+
+returns-2 : tie.Need-returns-2
+returns-2 c =
+    let s = c .before .before in
+    let k = s .before .before in
+    second-refused _ _ (sym (k .before .before .read-pattern .ensures) ∙ k .first .given .1) (sym (s .read-pattern2 .ensures) ∙ c .enum-told2 .given .1)
+
+returns-3 : tie.Need-returns-3
+returns-3 c =
+    let r = c .before in
+    let s = r .before .before in
+    let k = s .before .before in
+    both-read _ _ (sym (k .before .before .read-pattern .ensures) ∙ k .first .given .1) (sym (s .read-pattern2 .ensures) ∙ r .second .given .1)
+
+pub read-two-spec : {M : Type 1} → statement M
+read-two-spec =
+    tie.close
+    (tie.spec
+    read-pattern-requires
+    enum-known-first
+    enum-told
+    returns
+    read-pattern-requires-2
+    enum-known-second
+    enum-told-2
+    returns-2
+    returns-3)

@@ -1,0 +1,133 @@
+-- `binary32_arithmetic::slices::sum_slices` meets its contract.
+use borrow.Author.Needs.{needs}
+use borrow.Author.Tests.{eq-eqb, ne-eqb}
+use mathlib.Core.Path.{_≡_, refl, sym, ap, _∙_}
+use mathlib.Core.Bool.{true, false}
+use mathlib.Core.List.{List}
+use Prim.Native.Nat.{ℕ}
+use lib.Dec.{eqb}
+use lib.ListN.{length}
+use Rattle.theory.specs.Tests.{_and_}
+use Rattle.theory.specs.Round.{Direction}
+use Rattle.theory.proofs.Tests.{and-made, denied, granted, unless-passed, unless-failed}
+use Rattle.format.specs.declared.Refusal.the-variants.{NoSuchDirection, LengthsDiffer}
+use Rattle.format.specs.Directions.{isDirection, direction}
+use Rattle.binary32_arithmetic.specs.declared.SliceAnswer.{SliceAnswer}
+use Rattle.binary32_arithmetic.specs.declared.SliceAnswer.the-variants.{Refused}
+use Rattle.binary32_arithmetic.specs.Slices.{firstRefused, sums, slicesAnswer}
+use Rattle.binary32_arithmetic.proofs.Passes.{never-plain}
+use Rattle.binary32_arithmetic.proofs.slices.sum_slices.Statement.{statement}
+use Rattle.binary32_arithmetic.proofs.slices.sum_slices.Tie as tie
+
+-- ---- the checks on any lists
+module _ (d : ℕ) (a b out : List ℕ) where
+  lengths-differ : eqb (length a) (length b) and eqb (length a) (length out) ≡ false → Refused LengthsDiffer ≡ slicesAnswer d a b out
+  unfolding slicesAnswer
+  lengths-differ h = sym (unless-failed _ _ h)
+
+  first-differs : (length a ≡ length b → ⊥) → eqb (length a) (length b) and eqb (length a) (length out) ≡ false
+  unfolding _and_
+  first-differs h = rw (ne-eqb _ _ h, _and_)
+
+  second-differs : length a ≡ length b → (length a ≡ length out → ⊥) → eqb (length a) (length b) and eqb (length a) (length out) ≡ false
+  unfolding _and_
+  second-differs e h = rw (eq-eqb _ _ e, ne-eqb _ _ h, _and_)
+
+  module _ (e : length a ≡ length b) (g : length a ≡ length out) where
+    no-direction : isDirection d ≡ false → Refused NoSuchDirection ≡ slicesAnswer d a b out
+    unfolding slicesAnswer
+    no-direction h = sym (unless-passed _ _ (and-made (eq-eqb _ _ e) (eq-eqb _ _ g)) ∙ unless-failed _ _ h)
+
+    checked : isDirection d ≡ true → {s : Direction} → s ≡ direction d → firstRefused s 0 a b ≡ slicesAnswer d a b out
+    unfolding slicesAnswer
+    checked h k =
+        ap (λ (t : Direction). firstRefused t 0 a b) k ∙ sym (unless-passed _ _ (and-made (eq-eqb _ _ e) (eq-eqb _ _ g)) ∙ unless-passed _ _ h)
+
+returns : tie.Need-returns
+returns c =
+    let s = c .before .before .before .before .args in
+    (lengths-differ (s .direction) (s .a .now) (s .b .now) (s .out .now) (first-differs (s .direction) (s .a .now) (s .b .now) (s .out .now) (c .if1 .taken)), refl)
+
+returns-2 : tie.Need-returns-2
+returns-2 c =
+    let s = c .before .before .before .before .before .args in
+    (lengths-differ (s .direction) (s .a .now) (s .b .now) (s .out .now) (second-differs (s .direction) (s .a .now) (s .b .now) (s .out .now) (c .before .if1 .left) (c .if2 .taken)), refl)
+
+is-direction-requires : tie.Need-is-direction-requires
+is-direction-requires c κs = search needs
+
+returns-3 : tie.Need-returns-3
+returns-3 c =
+    let e = c .before .before in
+    let s = e .before .before .before .before .before .args in
+    (no-direction (s .direction) (s .a .now) (s .b .now) (s .out .now) (e .before .if1 .left) (e .if2 .left) (denied (c .before .is-direction .ensures) (c .if3 .taken)), refl)
+
+direction-of-requires : tie.Need-direction-of-requires
+direction-of-requires c κs = granted (c .before .is-direction .ensures) (c .if3 .left)
+
+first-refused-requires : tie.Need-first-refused-requires
+first-refused-requires c κs = search needs
+
+-- ---- after the first pass
+module _ (j : tie.After-first-refused) where
+  abbrev start : tie.Start
+  start = j .before .before .before .before .before .before .before .before .before
+
+  passed : j .first-refused .result ≡ slicesAnswer (start .args .direction) (start .args .a .now) (start .args .b .now) (start .args .out .now)
+  passed =
+      let f = j .before .before in
+      let e = f .before .before in
+      j .first-refused .ensures
+      ∙ checked (start .args .direction) (start .args .a .now) (start .args .b .now) (start .args .out .now) (e .before .if1 .left) (e .if2 .left)
+      (granted (f .before .is-direction .ensures) (f .if3 .left)) (j .before .direction-of .ensures)
+
+enum-known-why : tie.Need-enum-known-why
+enum-known-why c = search needs
+
+enum-known-why-2 : tie.Need-enum-known-why-2
+enum-known-why-2 c = search needs
+
+enum-told : tie.Need-enum-told
+enum-told c = search needs
+
+write-sums-requires : tie.Need-write-sums-requires
+write-sums-requires c κs = search needs
+
+returns-4 : tie.Need-returns-4
+returns-4 c =
+    let j = c .before .before .before in
+    absurd (never-plain _ _ _ _ (sym (j .first-refused .ensures) ∙ c .before .why .given .1))
+
+returns-5 : tie.Need-returns-5
+returns-5 c = (sym (c .before .why2 .given .1) ∙ passed (c .before .before .before), refl)
+
+same-length : tie.Need-same-length
+same-length c = search needs
+
+returns-6 : tie.Need-returns-6
+returns-6 c =
+    let t = c .before .before .before .before in
+    let j = t .before .before in
+    let s = start j .args in (
+      sym (t .enum-told .given .1) ∙ passed j,
+      c .before .before .write-sums .ensures ∙ ap (λ (d : Direction). sums d (s .a .now) (s .b .now)) (j .before .direction-of .ensures),
+    )
+
+pub sum-slices-spec : {M : Type 1} → statement M
+sum-slices-spec =
+    tie.close
+    (tie.spec
+    returns
+    returns-2
+    is-direction-requires
+    returns-3
+    direction-of-requires
+    first-refused-requires
+    enum-known-why
+    enum-known-why-2
+    enum-told
+    write-sums-requires
+    returns-4
+    returns-5
+    same-length
+    returns-6)

@@ -1,0 +1,98 @@
+-- `binary32_arithmetic::slices::write_sums` meets its contract: what is written and the sums of the rest are all sums.
+use borrow.Author.Needs.{needs}
+use native.Mathlib.Omega.{arith}
+use mathlib.Core.Path.{_≡_, refl, sym, ap, _∙_}
+use mathlib.Core.List.{_++_, append-nil}
+use lib.Seq.{take-all}
+use Prim.Native.Nat.{_≤_, _<_, _-_, _+_}
+use lib.ListN.{length, take, drop, getD}
+use Rattle.format.specs.Directions.{sense}
+use Rattle.binary32_arithmetic.specs.Calls.{sumOf}
+use Rattle.binary32_arithmetic.specs.Slices.{written, sums}
+use Rattle.binary32_arithmetic.proofs.Passes.{written-step, sums-end}
+use Rattle.binary32_arithmetic.proofs.slices.write_sums.Statement.{statement}
+use Rattle.binary32_arithmetic.proofs.slices.write_sums.Tie as tie
+
+abbrev Inv-loop : tie.InvT-loop
+Inv-loop direction a b out₀ i₀ out i =
+    (i ≤ length a) × (length out ≡ length out₀) × (take i out ++ sums (sense direction) (drop i a) (drop i b) ≡ sums (sense direction) a b)
+
+abbrev μ-loop : tie.MeasureT-loop
+μ-loop direction a b out₀ i₀ out i = length a - i
+
+loop-holds : tie.Need-loop-holds Inv-loop μ-loop
+loop-holds c = search needs
+
+mul-add-patterns : tie.Need-mul-add-patterns Inv-loop μ-loop
+mul-add-patterns c = search needs
+
+shared-slice-read-add-patterns : tie.Need-shared-slice-read-add-patterns Inv-loop μ-loop
+shared-slice-read-add-patterns c = search needs
+
+mul-add-patterns-2 : tie.Need-mul-add-patterns-2 Inv-loop μ-loop
+mul-add-patterns-2 c = search needs
+
+shared-slice-read-add-patterns-2 : tie.Need-shared-slice-read-add-patterns-2 Inv-loop μ-loop
+shared-slice-read-add-patterns-2 c = search needs
+
+add-patterns-requires : tie.Need-add-patterns-requires Inv-loop μ-loop
+add-patterns-requires c κs = search needs
+
+written-or-zero-requires : tie.Need-written-or-zero-requires Inv-loop μ-loop
+written-or-zero-requires c κs = search needs
+
+mul-out : tie.Need-mul-out Inv-loop μ-loop
+mul-out c = search needs
+
+slice-write-out : tie.Need-slice-write-out Inv-loop μ-loop
+slice-write-out c = search needs
+
+add-done : tie.Need-add-done Inv-loop μ-loop
+add-done c = search needs
+
+loop-less : tie.Need-loop-less Inv-loop μ-loop
+loop-less c = search needs
+
+loop-again : tie.Need-loop-again Inv-loop μ-loop
+loop-again c =
+    let j = c .before .before .before .before .before in
+    let st = j .before .before .before .before in
+    let v : c .written-or-zero .result ≡ written (sumOf (sense (st .args .direction)) (getD (st .args .a .now) (j .loop .done) 0) (getD (st .args .b .now) (j .loop .done) 0)) =
+    c .written-or-zero .ensures ∙ ap written (c .before .add-patterns .ensures) in (
+      search needs,
+      search needs,
+      written-step (sense (st .args .direction)) (j .loop .done) (c .written-or-zero .result) (st .args .a .now) (st .args .b .now) (j .loop .out) (omega arith) (st .pre .0) (omega arith) v
+          ∙ j .loop .inv .2,
+    )
+
+same-length : tie.Need-same-length Inv-loop μ-loop
+same-length c = search needs
+
+returns : tie.Need-returns Inv-loop μ-loop
+returns c =
+    let st = c .before .before .before .before .before in
+    let end : c .before .loop .done ≡ length (st .args .a .now) = omega arith in
+    let all : take (c .before .loop .done) (c .before .loop .out) ≡ c .before .loop .out = take-all (c .before .loop .done) (c .before .loop .out) (omega arith) in
+    sym (append-nil (c .before .loop .out))
+    ∙ (simp (all, sums-end (sense (st .args .direction)) (c .before .loop .done) (st .args .a .now) (st .args .b .now) end) at (c .before .loop .inv .2))
+
+pub write-sums-spec : {M : Type 1} → statement M
+write-sums-spec =
+    tie.close
+    (tie.spec
+    Inv-loop
+    μ-loop
+    loop-holds
+    mul-add-patterns
+    shared-slice-read-add-patterns
+    mul-add-patterns-2
+    shared-slice-read-add-patterns-2
+    add-patterns-requires
+    written-or-zero-requires
+    mul-out
+    slice-write-out
+    add-done
+    loop-less
+    loop-again
+    same-length
+    returns)

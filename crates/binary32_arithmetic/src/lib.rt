@@ -1,0 +1,26 @@
+// Arithmetic on binary32 patterns: sum, difference, product and quotient of two patterns, and the sum of two slices.
+pub mod entry;
+pub mod operations;
+pub mod slices;
+
+use format::Refusal;
+use number::Number;
+
+// Two numbers that were read.
+pub struct Pair {
+    pub first: Number,
+    pub second: Number,
+}
+
+// Two finite patterns, read.
+pub enum Operands {
+    Both(Pair),
+    Refused(Refusal),
+}
+
+// What a sum of slices answers: refusals 5 and 9 come with the index of the first refused entry.
+pub enum SliceAnswer {
+    Done,
+    Refused(Refusal),
+    RefusedAt(Refusal, usize),
+}
