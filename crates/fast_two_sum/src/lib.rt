@@ -7,6 +7,7 @@ use format::Refusal;
 use number::Number;
 
 // x from a + b, z from x - a, y from b - z.
+#[repr(C)]
 pub struct Steps {
     pub x: Number,
     pub z: Number,

@@ -8,6 +8,7 @@ pub mod refusals;
 pub type Significand = u32;
 
 // Base, digits, lowest and highest exponent of the whole-number significand.
+#[repr(C)]
 pub struct Format {
     pub base: u32,
     pub digits: u32,

@@ -10,6 +10,7 @@ use format::Refusal;
 use format::Significand;
 
 // The value (-1)^negative * significand * base^exponent.
+#[repr(C)]
 pub struct Number {
     pub negative: bool,
     pub significand: Significand,

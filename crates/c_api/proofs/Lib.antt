@@ -1,0 +1,1 @@
+-- The exports' proofs need no laws of their own.

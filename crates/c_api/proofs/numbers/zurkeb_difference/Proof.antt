@@ -1,0 +1,18 @@
+-- `c_api::numbers::zurkeb_difference` meets its contract.
+use borrow.Author.Needs.{needs}
+use mathlib.Core.Path.{ap, _∙_}
+use Rattle.c_api.specs.Answers.{numberOut}
+use Rattle.c_api.proofs.numbers.zurkeb_difference.Statement.{statement}
+use Rattle.c_api.proofs.numbers.zurkeb_difference.Tie as tie
+
+difference-requires : tie.Need-difference-requires
+difference-requires c κs = search needs
+
+number-out-requires : tie.Need-number-out-requires
+number-out-requires c κs = search needs
+
+returns : tie.Need-returns
+returns c = c .number-out .ensures ∙ ap numberOut (c .before .difference .ensures)
+
+pub zurkeb-difference-spec : {M : Type 1} → statement M
+zurkeb-difference-spec = tie.close (tie.spec difference-requires number-out-requires returns)

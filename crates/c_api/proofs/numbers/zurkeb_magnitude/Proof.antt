@@ -1,0 +1,18 @@
+-- `c_api::numbers::zurkeb_magnitude` meets its contract.
+use borrow.Author.Needs.{needs}
+use mathlib.Core.Path.{ap, _∙_}
+use Rattle.c_api.specs.Answers.{numberOut}
+use Rattle.c_api.proofs.numbers.zurkeb_magnitude.Statement.{statement}
+use Rattle.c_api.proofs.numbers.zurkeb_magnitude.Tie as tie
+
+magnitude-requires : tie.Need-magnitude-requires
+magnitude-requires c κs = search needs
+
+number-out-requires : tie.Need-number-out-requires
+number-out-requires c κs = search needs
+
+returns : tie.Need-returns
+returns c = c .number-out .ensures ∙ ap numberOut (c .before .magnitude .ensures)
+
+pub zurkeb-magnitude-spec : {M : Type 1} → statement M
+zurkeb-magnitude-spec = tie.close (tie.spec magnitude-requires number-out-requires returns)

@@ -1,0 +1,18 @@
+-- `c_api::numbers::zurkeb_product` meets its contract.
+use borrow.Author.Needs.{needs}
+use mathlib.Core.Path.{ap, _∙_}
+use Rattle.c_api.specs.Answers.{numberOut}
+use Rattle.c_api.proofs.numbers.zurkeb_product.Statement.{statement}
+use Rattle.c_api.proofs.numbers.zurkeb_product.Tie as tie
+
+product-requires : tie.Need-product-requires
+product-requires c κs = search needs
+
+number-out-requires : tie.Need-number-out-requires
+number-out-requires c κs = search needs
+
+returns : tie.Need-returns
+returns c = c .number-out .ensures ∙ ap numberOut (c .before .product .ensures)
+
+pub zurkeb-product-spec : {M : Type 1} → statement M
+zurkeb-product-spec = tie.close (tie.spec product-requires number-out-requires returns)

@@ -1,0 +1,86 @@
+// binary32 patterns and the sum of slices, for C. The pattern calls answer a 64-bit number: the refusal in the upper half, the
+// pattern in the lower.
+use crate::NumberAnswer;
+use crate::SlicesAnswer;
+use crate::answers::number_out;
+use crate::answers::pattern_out;
+use crate::answers::slices_out;
+use binary32::patterns::read_pattern;
+use binary32::patterns::write_pattern;
+use binary32_arithmetic::operations::pattern_difference;
+use binary32_arithmetic::operations::pattern_product;
+use binary32_arithmetic::operations::pattern_quotient;
+use binary32_arithmetic::operations::pattern_sum;
+use binary32_arithmetic::slices::sum_slices;
+use number::Number;
+ghost use mathlib.Core.Path.{_≡_};
+ghost use Rattle.format.specs.Directions as directions;
+ghost use Rattle.binary32.specs.Patterns.{patternRead, patternWritten};
+ghost use Rattle.binary32_arithmetic.specs.Calls.{patternSum, patternDifference, patternProduct, patternQuotient};
+ghost use Rattle.binary32_arithmetic.specs.Slices.{sums, slicesAnswer, slicesWritten};
+ghost use Rattle.c_api.specs.Answers.{numberOut, patternOut, slicesOut};
+
+// The number of a pattern. Refuses 9.
+#[no_mangle]
+pub extern "C" fn zurkeb_read_pattern(pattern: u32) -> NumberAnswer
+    ensures { λ r. ⌜ r ≡ numberOut (patternRead pattern) ⌝ }
+{
+    number_out(read_pattern(pattern))
+}
+
+// The pattern of a number. Refuses 3.
+#[no_mangle]
+pub extern "C" fn zurkeb_write_pattern(x: Number) -> u64
+    ensures { λ r. ⌜ r ≡ patternOut (patternWritten x) ⌝ }
+{
+    pattern_out(write_pattern(x))
+}
+
+// a + b. Refuses 2, 9, 5.
+#[no_mangle]
+pub extern "C" fn zurkeb_pattern_sum(a: u32, b: u32, direction: u32) -> u64
+    ensures { λ r. ⌜ r ≡ patternOut (patternSum direction a b) ⌝ }
+{
+    pattern_out(pattern_sum(direction, a, b))
+}
+
+// a - b. Refuses 2, 9, 5.
+#[no_mangle]
+pub extern "C" fn zurkeb_pattern_difference(a: u32, b: u32, direction: u32) -> u64
+    ensures { λ r. ⌜ r ≡ patternOut (patternDifference direction a b) ⌝ }
+{
+    pattern_out(pattern_difference(direction, a, b))
+}
+
+// a * b. Refuses 2, 9, 5.
+#[no_mangle]
+pub extern "C" fn zurkeb_pattern_product(a: u32, b: u32, direction: u32) -> u64
+    ensures { λ r. ⌜ r ≡ patternOut (patternProduct direction a b) ⌝ }
+{
+    pattern_out(pattern_product(direction, a, b))
+}
+
+// a / b. Refuses 2, 9, 4, 5.
+#[no_mangle]
+pub extern "C" fn zurkeb_pattern_quotient(a: u32, b: u32, direction: u32) -> u64
+    ensures { λ r. ⌜ r ≡ patternOut (patternQuotient direction a b) ⌝ }
+{
+    pattern_out(pattern_quotient(direction, a, b))
+}
+
+// a + b entry by entry into out. Refuses 11, 2, and 9 and 5 with the index of the first refused entry; a refused call leaves out
+// as it was.
+#[no_mangle]
+pub extern "C" fn zurkeb_sum_slices(
+    a: &[u32],
+    b: &[u32],
+    out: &mut [u32],
+    direction: u32,
+) -> SlicesAnswer
+    ensures answer { λ r. ⌜ r ≡ slicesOut (slicesAnswer direction (now (a .entry)) (now (b .entry)) (now (out .entry))) ⌝ }
+    ensures written { λ _. ⌜ now (out .exit) ≡ slicesWritten (slicesAnswer direction (now (a .entry)) (now (b .entry)) (now (out .entry)))
+        (sums (directions.direction direction) (now (a .entry)) (now (b .entry))) (now (out .entry)) ⌝ }
+{
+    let answer = sum_slices(direction, a, b, out);
+    slices_out(answer)
+}

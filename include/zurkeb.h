@@ -1,0 +1,152 @@
+/* Zurkeb: proved floating-point arithmetic for any base from 2 to 256.
+ *
+ * Every call takes anything: it answers, or refuses by a number of enum zurkeb_refusal. An answer struct begins with the refusal,
+ * 0 for none; at a refusal its other fields are zero. Numbers and formats go by value. */
+#ifndef ZURKEB_H
+#define ZURKEB_H
+
+#include <stdbool.h>
+#include <stddef.h>
+#include <stdint.h>
+
+#ifdef __cplusplus
+extern "C" {
+#endif
+
+enum zurkeb_refusal {
+    ZURKEB_NONE = 0,
+    ZURKEB_FORMAT_NOT_ADMITTED = 1,
+    ZURKEB_NO_SUCH_DIRECTION = 2,
+    ZURKEB_NUMBER_NOT_IN_FORMAT = 3,
+    ZURKEB_DIVISOR_ZERO = 4,
+    ZURKEB_TOO_LARGE = 5, /* or no neighbour exists */
+    ZURKEB_NOT_BINARY = 6,
+    ZURKEB_SMALLER_FIRST = 7,
+    ZURKEB_PREMISE_FAILS = 8,
+    ZURKEB_NOT_FINITE = 9,
+    ZURKEB_NO_SUCH_FORMAT = 10,
+    ZURKEB_LENGTHS_DIFFER = 11
+};
+
+/* The directions of rounding: a call takes their numbers. */
+enum zurkeb_direction {
+    ZURKEB_NEAREST_EVEN = 0,
+    ZURKEB_NEAREST_AWAY = 1,
+    ZURKEB_TOWARD_ZERO = 2,
+    ZURKEB_UPWARD = 3,
+    ZURKEB_DOWNWARD = 4
+};
+
+/* Base, digits, lowest and highest exponent of the whole-number significand. */
+typedef struct zurkeb_format {
+    uint32_t base;
+    uint32_t digits;
+    int32_t emin;
+    int32_t emax;
+} zurkeb_format;
+
+/* The value (-1)^negative * significand * base^exponent. */
+typedef struct zurkeb_number {
+    bool negative;
+    uint32_t significand;
+    int32_t exponent;
+} zurkeb_number;
+
+typedef struct zurkeb_number_answer {
+    uint32_t refusal;
+    zurkeb_number number;
+} zurkeb_number_answer;
+
+typedef struct zurkeb_order_answer {
+    uint32_t refusal;
+    int32_t order; /* -1 less, 0 equal, 1 greater */
+} zurkeb_order_answer;
+
+typedef struct zurkeb_published_answer {
+    uint32_t refusal;
+    zurkeb_format format;
+} zurkeb_published_answer;
+
+typedef struct zurkeb_triple_answer {
+    uint32_t refusal;
+    zurkeb_number x, z, y;
+} zurkeb_triple_answer;
+
+typedef struct zurkeb_check_answer {
+    uint32_t refusal;
+    uint32_t yes; /* 1 for yes, 0 for no */
+} zurkeb_check_answer;
+
+typedef struct zurkeb_slices_answer {
+    uint32_t refusal;
+    uint64_t index; /* of the first refused entry, beside refusals 5 and 9 */
+} zurkeb_slices_answer;
+
+#ifdef __cplusplus
+#define ZURKEB_SIZE(type, size) static_assert(sizeof(type) == (size), #type)
+#else
+#define ZURKEB_SIZE(type, size) _Static_assert(sizeof(type) == (size), #type)
+#endif
+ZURKEB_SIZE(zurkeb_format, 16);
+ZURKEB_SIZE(zurkeb_number, 12);
+ZURKEB_SIZE(zurkeb_number_answer, 16);
+ZURKEB_SIZE(zurkeb_order_answer, 8);
+ZURKEB_SIZE(zurkeb_published_answer, 20);
+ZURKEB_SIZE(zurkeb_triple_answer, 40);
+ZURKEB_SIZE(zurkeb_check_answer, 8);
+ZURKEB_SIZE(zurkeb_slices_answer, 16);
+#undef ZURKEB_SIZE
+
+/* Is the format admitted? 0, or 1. */
+uint32_t zurkeb_check_format(zurkeb_format format);
+/* The published format with this number: 1 binary16, 2 binary32, 3 decimal32. Refuses 10. */
+zurkeb_published_answer zurkeb_published(uint32_t number);
+/* Is x in the format? 0, or 1 or 3. */
+uint32_t zurkeb_check_number(zurkeb_format format, zurkeb_number x);
+/* The order of a and b by exact value. Refuses 1, 3. */
+zurkeb_order_answer zurkeb_compare(zurkeb_format format, zurkeb_number a, zurkeb_number b);
+/* -x and |x|. Refuse 1, 3. */
+zurkeb_number_answer zurkeb_negate(zurkeb_format format, zurkeb_number x);
+zurkeb_number_answer zurkeb_magnitude(zurkeb_format format, zurkeb_number x);
+
+/* The first place (the greatest power of the base not above |x|), the last place (base^exponent), and the place of the least
+ * nonzero digit; all three are 0 at 0. Refuse 1, 3. */
+zurkeb_number_answer zurkeb_ufp(zurkeb_format format, zurkeb_number x);
+zurkeb_number_answer zurkeb_ulp(zurkeb_format format, zurkeb_number x);
+zurkeb_number_answer zurkeb_uls(zurkeb_format format, zurkeb_number x);
+/* The greatest number of the format below x, and the least above. Refuse 1, 3, 5. */
+zurkeb_number_answer zurkeb_predecessor(zurkeb_format format, zurkeb_number x);
+zurkeb_number_answer zurkeb_successor(zurkeb_format format, zurkeb_number x);
+
+/* The exact result, rounded once in the direction. Refuse 1, 2, 3, 5; the quotient also 4. */
+zurkeb_number_answer zurkeb_sum(zurkeb_format format, uint32_t direction, zurkeb_number a, zurkeb_number b);
+zurkeb_number_answer zurkeb_difference(zurkeb_format format, uint32_t direction, zurkeb_number a, zurkeb_number b);
+zurkeb_number_answer zurkeb_product(zurkeb_format format, uint32_t direction, zurkeb_number a, zurkeb_number b);
+zurkeb_number_answer zurkeb_quotient(zurkeb_format format, uint32_t direction, zurkeb_number a, zurkeb_number b);
+
+/* FastTwoSum: x from a + b, z from x - a, y from b - z, each in its own direction. Refuses 1, 2, 3, 6, 7, 5. */
+zurkeb_triple_answer zurkeb_fast_two_sum(zurkeb_format format, uint32_t first, uint32_t second, uint32_t third, zurkeb_number a,
+                                         zurkeb_number b);
+/* Are x, z and y faithful to a + b, x - a and b - z? Refuses 1, 3, 6, 7. */
+zurkeb_check_answer zurkeb_is_fast_two_sum(zurkeb_format format, zurkeb_number a, zurkeb_number b, zurkeb_number x, zurkeb_number z,
+                                           zurkeb_number y);
+
+/* The number of a binary32 pattern, in published format 2. Refuses 9. */
+zurkeb_number_answer zurkeb_read_pattern(uint32_t pattern);
+/* The calls below answer a 64-bit number: the refusal (0 for none) in the upper half, the pattern in the lower, 0 at a refusal. */
+/* The pattern of a number of published format 2. Refuses 3. */
+uint64_t zurkeb_write_pattern(zurkeb_number x);
+/* Sum, difference, product and quotient of patterns. Refuse 2, 9, 5; the quotient also 4. */
+uint64_t zurkeb_pattern_sum(uint32_t a, uint32_t b, uint32_t direction);
+uint64_t zurkeb_pattern_difference(uint32_t a, uint32_t b, uint32_t direction);
+uint64_t zurkeb_pattern_product(uint32_t a, uint32_t b, uint32_t direction);
+uint64_t zurkeb_pattern_quotient(uint32_t a, uint32_t b, uint32_t direction);
+/* a + b entry by entry into out, each slice a pointer and a length. Refuses 11, 2, and 9 and 5 with the index of the first refused
+ * entry; a refused call leaves out as it was. out must not overlap a or b. */
+zurkeb_slices_answer zurkeb_sum_slices(const uint32_t *a, size_t a_length, const uint32_t *b, size_t b_length, uint32_t *out,
+                                       size_t out_length, uint32_t direction);
+
+#ifdef __cplusplus
+}
+#endif
+#endif
