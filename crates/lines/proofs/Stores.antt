@@ -1,0 +1,62 @@
+-- Texts stored one after the other.
+use Prim.Native.Nat.{ℕ, suc, _+_, _≤_}
+use mathlib.Core.Path.{_≡_, sym, ap, _∙_}
+use mathlib.Core.Bool.{Bool, true, false, cond}
+use mathlib.Core.List.{List, [], _∷_, _++_}
+use native.Mathlib.Nat.{add-zero}
+use native.Mathlib.Omega.{arith}
+use lib.Dec.{eqb}
+use lib.ListN.{length, set, length-append}
+use lib.Seq.{sets, length-sets}
+use Rattle.number.specs.declared.Answer.{Answer}
+use Rattle.number.specs.declared.Answer.the-variants as answer
+use Rattle.binary32.specs.declared.Pattern.{Pattern}
+use Rattle.binary32.specs.declared.Pattern.the-variants.{Written, Refused}
+use Rattle.binary32.specs.Patterns.{patternRead}
+use Rattle.lines.specs.declared.Line.{Line}
+use Rattle.lines.specs.Printing.{Put, fieldText, placesOf, answeredText, patternText, badLine, textOf, lineFeed}
+
+pub sets-append : (l : List ℕ) (at : ℕ) (s t : List ℕ) → sets l at (s ++ t) ≡ sets (sets l at s) (at + length s) t
+sets-append l at [] t = rw add-zero
+sets-append l at (a ∷ s) t =
+    let e : suc at + length s ≡ at + suc (length s) = omega arith in
+    sets-append (set l at a) (suc at) s t ∙ ap (λ (k : ℕ). sets (sets (set l at a) (suc at) s) k t) e
+
+-- one text after another
+pub put-after : {at middle end : ℕ} {s t before between after : List ℕ} → Put at s before middle between → Put middle t between end after → Put at (s ++ t) before end after
+put-after {at} {middle} {end} {s} {t} {before} {between} {after} p q =
+    record {
+      ends = omega (arith, p .ends, q .ends, length-append s t);
+      holds = q .holds ∙ rw (p .ends, p .holds) (sym (sets-append before at s t));
+    }
+
+pub put-length : {at next : ℕ} {text before after : List ℕ} → Put at text before next after → length after ≡ length before
+put-length {at} {next} {text} {before} p = ap length (p .holds) ∙ length-sets before at text
+
+-- the same text, written otherwise
+pub put-as : {at next : ℕ} {s t before after : List ℕ} → s ≡ t → Put at s before next after → Put at t before next after
+put-as e p = rw (sym e) p
+
+-- ---- the longest texts
+field-length : (p : Pattern) → length (fieldText p) ≤ 8
+field-length (Written n) = omega arith
+field-length (Refused why) = omega arith
+
+pub field-room : (p : Pattern) (end : ℕ) → length (fieldText p ++ end ∷ []) ≤ 9
+field-room p end = omega (arith, length-append (fieldText p) (end ∷ []), field-length p)
+
+-- the text for a pattern has at most 44 bytes
+answered-length : (n : ℕ) (a : Answer) → length (answeredText n a) ≤ 44
+answered-length n (answer.Value x) = let q = placesOf x in simp length-append (omega (arith, field-length (q .first), field-length (q .last), field-length (q .below), field-length (q .above)))
+answered-length n (answer.Refused why) = omega arith
+
+text-length : (l : Line) → length (textOf l) ≤ 44
+unfolding textOf patternText
+text-length l = by (eqb (l .count) 8)
+  where
+    by : (t : Bool) → length (cond t (answeredText (l .value) (patternRead (l .value))) badLine) ≤ 44
+    by true = answered-length (l .value) (patternRead (l .value))
+    by false = omega arith
+
+pub text-room : (l : Line) → length (textOf l ++ lineFeed) ≤ 45
+text-room l = omega (arith, length-append (textOf l) lineFeed, text-length l)

@@ -1,0 +1,4 @@
+-- What a line is, the line that is printed for it, and input in blocks.
+pub mod Reading
+pub mod Printing
+pub mod Blocks

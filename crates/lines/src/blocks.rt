@@ -1,0 +1,58 @@
+// Whole lines, and input that comes in blocks of any size: a line may begin in one block and end in another.
+use crate::Block;
+use crate::Line;
+use crate::printing::put_line;
+use crate::reading::new_line;
+use crate::reading::push;
+use crate::reading::read_line;
+ghost use mathlib.Core.Path.{_≡_};
+ghost use Prim.Native.Nat.{_*_, _≤_};
+ghost use lib.ListN.{length};
+ghost use Rattle.lines.specs.Printing.{Put};
+ghost use Rattle.lines.specs.Blocks.{Answered, answerLine, endText};
+
+// The line that is printed for a line, with its line feed, at the start of `out`, and its length. A slice of fewer than 45
+// bytes stays as it is, and the length is 0.
+pub fn answer_line(line: &[u8], out: &mut [u8]) -> usize
+    ensures { λ r. ⌜ (r, now (out .exit)) ≡ answerLine (now (line .entry)) (now (out .entry)) ⌝ }
+{
+    if out.len() < 45 {
+        return 0;
+    }
+    put_line(out, 0, read_line(line))
+}
+
+// A block of input: the lines that end in it are printed at the start of `out`.
+pub fn answer_block(first: Line, input: &[u8], out: &mut [u8]) -> Block
+    requires { ⌜ 45 * length (now input) ≤ length (now out) ⌝ }
+    ensures { λ r. ⌜ Answered first (now (input .entry)) (now (out .entry)) r (now (out .exit)) ⌝ }
+{
+    let mut line = first;
+    let mut at = 0;
+    let mut i = 0;
+    while i < input.len() {
+        let b = input[i];
+        i += 1;
+        if b == 10 {
+            at = put_line(out, at, line);
+            line = new_line();
+        } else {
+            line = push(line, b);
+        }
+    }
+    Block {
+        line: line,
+        printed: at,
+    }
+}
+
+// The end of input ends a line that has begun.
+pub fn answer_end(line: Line, out: &mut [u8]) -> usize
+    requires { ⌜ 45 ≤ length (now out) ⌝ }
+    ensures { λ r. ⌜ Put 0 (endText line) (now (out .entry)) r (now (out .exit)) ⌝ }
+{
+    if line.count == 0 {
+        return 0;
+    }
+    put_line(out, 0, line)
+}
