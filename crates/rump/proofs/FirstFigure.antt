@@ -1,0 +1,120 @@
+-- Figure 1, line by line: under its premise no line passes the greatest number, so each gives the theory's value.
+use Prim.Native.Nat.{ℕ, zero, suc, _+_, _*_, _-_, _^_, _≤_, _<_}
+use mathlib.Core.Path.{_≡_, sym, ap, _∙_}
+use native.Mathlib.Nat.{le-trans, mul-le-mul-left, mul-le-mul-right}
+use native.Mathlib.Decide.{decLe}
+use native.Mathlib.Omega.{arith}
+use lib.IntN.{ℤ, pos, natAbs}
+use Rattle.theory.specs.Place.{Positional, place}
+use Rattle.theory.specs.Neighbours.{lower}
+use Rattle.theory.specs.Round.{toward-zero}
+use Rattle.theory.specs.Units.{ufp}
+use Rattle.theory.specs.Rump.{sum, difference, product, below-one, scaled-up, ufp-toward-zero}
+use Rattle.theory.proofs.Powers.{pow-add, pow-pos, pow-mono, pow-pred}
+use Rattle.theory.proofs.Wide.{wide-phi}
+use Rattle.theory.proofs.Neighbours.{lower-exact}
+use Rattle.theory.proofs.Units.{ufp-le, ufp-power}
+use Rattle.theory.proofs.Operations.{sum-toward-zero}
+use Rattle.theory.proofs.FirstPlace.{scaled, below-one-is, scaled-up-is, scaled-up-most, shrunk-is, ufp-toward-zero-is}
+use Rattle.format.specs.declared.Format.{Format}
+use Rattle.format.specs.Formats.{highestPlace}
+use Rattle.format.proofs.Formats.{positional}
+use Rattle.number.specs.declared.Number.{Number}
+use Rattle.number.specs.declared.Answer.{Answer}
+use Rattle.number.specs.Exponents.{belowZero}
+use Rattle.number.specs.Numbers.{greatest}
+use Rattle.arithmetic.specs.Operations.{summed, subtracted, multiplied}
+use Rattle.rump.specs.Steps.{one, Has, Gives}
+use Rattle.rump.proofs.Reach.{First, one-positive, power-most, constant-most}
+use Rattle.rump.proofs.Steps.{by-zero, renamed, sum-gives, difference-gives, product-gives}
+
+module _ {f : Format} {n : ℕ} (k : First f n) where
+  ok : Positional (f .base) (f .digits)
+  ok = positional (k .admits)
+
+  -- 1 is β ^ p times a power of β, in units
+  abbrev spare : ℕ
+  spare = belowZero (f .emin) - f .digits
+
+  one-is : one f ≡ f .base ^ (f .digits + spare)
+  one-is = ap (λ (j : ℕ). f .base ^ j) (omega (arith, k .reach .low))
+
+  -- ---- line 2, p1 = 1 - subrealmin
+  below-one-most : natAbs (below-one (f .base) (f .digits) (one f)) ≤ greatest f
+  below-one-most =
+      let digits : f .base ^ f .digits - 1 ≤ f .base ^ f .digits = omega arith in
+      let within = power-most (k .admits) (f .digits + spare) (omega (arith, k .reach .low, k .reach .span)) in
+      rw (one-is, below-one-is ok spare) (omega (arith, mul-le-mul-right (f .base ^ spare) digits, pow-add (f .base) (f .digits) spare, within))
+
+  pub below-one-gives : {a b : Number} {r : Answer} → Has f a (pos (one f)) → Has f b (pos 1) → r ≡ subtracted f 2 a b → Gives f r (below-one (f .base) (f .digits) (one f))
+  unfolding below-one
+  below-one-gives x y e = difference-gives (k .admits) by-zero x y below-one-most e
+
+  -- ---- line 3, φ = β ^ (p - 1) + 1
+  abbrev phi : ℕ
+  phi = (f .base ^ (f .digits - 1) + 1) * one f
+
+  phi-most : phi ≤ greatest f
+  phi-most =
+      let j : ℕ = f .digits - 1 in
+      let top : f .base ^ j + 1 ≤ f .base ^ f .digits =
+      omega (arith, pow-pred (f .base) (k .admits .digits-low), mul-le-mul-right (f .base ^ j) (k .admits .base-low), pow-pos (k .admits .base-low) j) in
+      le-trans (mul-le-mul-right (one f) top) (constant-most (k .admits) (k .reach) (f .digits) (omega arith))
+
+  phi-is : sum (f .base) (f .digits) toward-zero (pos (f .base ^ (f .digits - 1) * one f)) (pos (one f)) ≡ pos phi
+  phi-is =
+      sum-toward-zero ok (f .base ^ (f .digits - 1) * one f) (one f)
+      ∙ ap pos (ap (lower (f .base) (f .digits)) (omega arith) ∙ lower-exact ok phi (wide-phi ok (belowZero (f .emin))))
+
+  pub phi-gives : {a b : Number} {r : Answer} → Has f a (pos (f .base ^ (f .digits - 1) * one f)) → Has f b (pos (one f)) → r ≡ summed f 2 a b → Gives f r (pos phi)
+  phi-gives x y e = renamed (sum-gives (k .admits) by-zero x y (rw phi-is phi-most) e) phi-is
+
+  -- ---- line 4, q = φ f
+  ufp-most : ufp (f .base) n ≤ f .base ^ (highestPlace f - f .digits)
+  ufp-most = by n (k .bound)
+    where
+      by : (m : ℕ) → m < f .base ^ (highestPlace f + 1 - f .digits) → ufp (f .base) m ≤ f .base ^ (highestPlace f - f .digits)
+      by zero h = omega (arith, ufp-le (k .admits .base-low) 0)
+      by (suc m) h = rw (ufp-power (k .admits .base-low) m) (pow-mono (k .admits .base-low) (low (decLe (place (f .base) 1 (suc m)) (highestPlace f - f .digits))))
+        where
+          low : Dec (place (f .base) 1 (suc m) ≤ highestPlace f - f .digits) → place (f .base) 1 (suc m) ≤ highestPlace f - f .digits
+          low (yes l) = l
+          low (no l) =
+              absurd
+              (omega (
+                arith,
+                ufp-le (k .admits .base-low) (suc m),
+                ufp-power (k .admits .base-low) m,
+                pow-mono (k .admits .base-low) {i = highestPlace f + 1 - f .digits} {j = place (f .base) 1 (suc m)} (omega arith),
+              ))
+
+  scaled-most : scaled (f .base) (f .digits) n ≤ greatest f
+  scaled-most =
+      let split : f .base ^ f .digits * f .base ^ (highestPlace f - f .digits) ≡ f .base ^ highestPlace f =
+      sym (pow-add (f .base) (f .digits) (highestPlace f - f .digits)) ∙ ap (λ (j : ℕ). f .base ^ j) (omega (arith, k .reach .low, k .reach .span)) in
+      omega (arith, scaled-up-most ok n, mul-le-mul-left (f .base ^ f .digits) ufp-most, power-most (k .admits) (highestPlace f) (omega arith))
+
+  abbrev q : ℤ
+  q = scaled-up (f .base) (f .digits) (one f) n
+
+  pub scaled-gives : {a b : Number} {r : Answer} → Has f a (pos phi) → Has f b (pos n) → r ≡ multiplied f 2 a b → Gives f r q
+  unfolding scaled-up
+  scaled-gives x y e = product-gives (k .admits) by-zero x y (k .reach .not-above) (rw (scaled-up-is ok (one f) n (one-positive (k .admits))) scaled-most) e
+
+  -- ---- line 5, p1 q and S = q - p1 q
+  abbrev shrunk : ℤ
+  shrunk = product (f .base) (f .digits) toward-zero (one f) (below-one (f .base) (f .digits) (one f)) q
+
+  pub shrunk-gives : {a b : Number} {r : Answer} → Has f a (below-one (f .base) (f .digits) (one f)) → Has f b q → r ≡ multiplied f 2 a b → Gives f r shrunk
+  shrunk-gives x y e =
+      product-gives (k .admits) by-zero x y (k .reach .not-above) (rw (one-is, shrunk-is ok spare n) (omega (arith, scaled-most))) e
+
+  first-is : difference (f .base) (f .digits) toward-zero q shrunk ≡ pos (ufp (f .base) n)
+  unfolding ufp-toward-zero
+  first-is = rw one-is (ufp-toward-zero-is ok spare n)
+
+  pub first-gives : {a b : Number} {r : Answer} → Has f a q → Has f b shrunk → r ≡ subtracted f 2 a b → Gives f r (pos (ufp (f .base) n))
+  first-gives x y e = renamed (difference-gives (k .admits) by-zero x y (rw first-is (omega (arith, ufp-most, within))) e) first-is
+    where
+      within : f .base ^ (highestPlace f - f .digits) ≤ greatest f
+      within = power-most (k .admits) (highestPlace f - f .digits) (omega arith)

@@ -1,0 +1,175 @@
+// Rump's routes to the last place: up (figure 3), toward zero (figure 4), and toward zero without a test (figure 5).
+use crate::constants::power;
+use crate::constants::subrealmin;
+use crate::premises::last_premise;
+use arithmetic::product::product;
+use arithmetic::sum::difference;
+use arithmetic::sum::sum;
+use format::Format;
+use format::Preparation;
+use format::Prepared;
+use format::Refusal;
+use number::Answer;
+use number::Number;
+use number::Ordered;
+use number::entry::enter;
+use number::order::compare;
+use number::signs::magnitude;
+ghost use mathlib.Core.Path.{_≡_};
+ghost use mathlib.Core.Bool.{true, false};
+ghost use lib.IntN.{pos};
+ghost use Rattle.theory.specs.Rump.{gap-below, gap-defect};
+ghost use Rattle.theory.specs.Units.{ulp};
+ghost use Rattle.number.specs.declared.Answer.the-variants.{Value};
+ghost use Rattle.number.specs.Entry.{Usable};
+ghost use Rattle.number.specs.Numbers as numbers;
+ghost use Rattle.rump.specs.Steps.{Has, Gives};
+ghost use Rattle.rump.specs.Routes.{lastPremise, ulpRoute};
+
+// Figure 3: S = (f + subrealmin) - f, in direction 3, up.
+fn upward_steps(prepared: Prepared, x: Number) -> Answer
+    requires { ⌜ Usable prepared × (numbers.member (prepared .format) x ≡ true) × (lastPremise (prepared .format) x ≡ true) ⌝ }
+    ensures { λ r. ⌜ r ≡ Value (numbers.number (prepared .format) false (ulp (prepared .format .base) (prepared .format .digits) (numbers.magnitude (prepared .format) x))) ⌝ }
+{
+    let format = prepared.format;
+    let size = magnitude(format, x);
+    let Answer::Value(f) = size else {
+        return size;
+    };
+    let next = sum(format, 3, f, subrealmin(prepared));
+    let Answer::Value(s) = next else {
+        return next;
+    };
+    difference(format, 3, s, f)
+}
+
+// Figures 4 and 5, lines 3 and 4: S = f - (f - subrealmin), in direction 2, toward zero.
+fn gap(prepared: Prepared, f: Number) -> Answer
+    requires { ⌜ Usable prepared × Has (prepared .format) f (pos (numbers.magnitude (prepared .format) f)) × (lastPremise (prepared .format) f ≡ true) ⌝ }
+    ensures { λ r. ⌜ Gives (prepared .format) r (gap-below (prepared .format .base) (prepared .format .digits) (numbers.magnitude (prepared .format) f)) ⌝ }
+{
+    let format = prepared.format;
+    let preceding = difference(format, 2, f, subrealmin(prepared));
+    let Answer::Value(p) = preceding else {
+        return preceding;
+    };
+    difference(format, 2, f, p)
+}
+
+// Figure 4: S, or base * S where f + S gives f.
+fn toward_zero_steps(prepared: Prepared, x: Number) -> Answer
+    requires { ⌜ Usable prepared × (numbers.member (prepared .format) x ≡ true) × (lastPremise (prepared .format) x ≡ true) ⌝ }
+    ensures { λ r. ⌜ r ≡ Value (numbers.number (prepared .format) false (ulp (prepared .format .base) (prepared .format .digits) (numbers.magnitude (prepared .format) x))) ⌝ }
+{
+    let format = prepared.format;
+    let size = magnitude(format, x);
+    let Answer::Value(f) = size else {
+        return size;
+    };
+    let found = gap(prepared, f);
+    let Answer::Value(s) = found else {
+        return found;
+    };
+    let raised = sum(format, 2, f, s);
+    let Answer::Value(next) = raised else {
+        return raised;
+    };
+    match compare(format, next, f) {
+        Ordered::Less => Answer::Value(s),
+        Ordered::Equal => product(format, 2, power(prepared, 1), s),
+        Ordered::Greater => Answer::Value(s),
+        Ordered::Refused(why) => Answer::Refused(why),
+    }
+}
+
+// Figure 5, line 5: d = ((f + S) - f) - S.
+fn defect(prepared: Prepared, f: Number, s: Number) -> Answer
+    requires { ⌜ Usable prepared × Has (prepared .format) f (pos (numbers.magnitude (prepared .format) f)) × (lastPremise (prepared .format) f ≡ true)
+        × Has (prepared .format) s (gap-below (prepared .format .base) (prepared .format .digits) (numbers.magnitude (prepared .format) f)) ⌝ }
+    ensures { λ r. ⌜ Gives (prepared .format) r (gap-defect (prepared .format .base) (prepared .format .digits) (numbers.magnitude (prepared .format) f)) ⌝ }
+{
+    let format = prepared.format;
+    let raised = sum(format, 2, f, s);
+    let Answer::Value(next) = raised else {
+        return raised;
+    };
+    let lowered = difference(format, 2, next, f);
+    let Answer::Value(back) = lowered else {
+        return lowered;
+    };
+    difference(format, 2, back, s)
+}
+
+// Figure 5: S - (base - 1) * d.
+fn unbranched_steps(prepared: Prepared, x: Number) -> Answer
+    requires { ⌜ Usable prepared × (numbers.member (prepared .format) x ≡ true) × (lastPremise (prepared .format) x ≡ true) ⌝ }
+    ensures { λ r. ⌜ r ≡ Value (numbers.number (prepared .format) false (ulp (prepared .format .base) (prepared .format .digits) (numbers.magnitude (prepared .format) x))) ⌝ }
+{
+    let format = prepared.format;
+    let less = difference(format, 2, power(prepared, 1), power(prepared, 0));
+    let Answer::Value(factor) = less else {
+        return less;
+    };
+    let size = magnitude(format, x);
+    let Answer::Value(f) = size else {
+        return size;
+    };
+    let found = gap(prepared, f);
+    let Answer::Value(s) = found else {
+        return found;
+    };
+    let off = defect(prepared, f, s);
+    let Answer::Value(d) = off else {
+        return off;
+    };
+    let correction = product(format, 2, factor, d);
+    let Answer::Value(c) = correction else {
+        return correction;
+    };
+    difference(format, 2, s, c)
+}
+
+// ulp(x) by operations alone, rounded up. Refuses 1, 3, 8.
+pub fn ulp_upward(format: Format, x: Number) -> Answer
+    ensures { λ r. ⌜ r ≡ ulpRoute format x ⌝ }
+{
+    match enter(format, x) {
+        Preparation::Refused(why) => Answer::Refused(why),
+        Preparation::Ready(prepared) => {
+            if !last_premise(prepared, x) {
+                return Answer::Refused(Refusal::PremiseFails);
+            }
+            upward_steps(prepared, x)
+        }
+    }
+}
+
+// ulp(x) by operations alone, rounded toward zero. Refuses 1, 3, 8.
+pub fn ulp_toward_zero(format: Format, x: Number) -> Answer
+    ensures { λ r. ⌜ r ≡ ulpRoute format x ⌝ }
+{
+    match enter(format, x) {
+        Preparation::Refused(why) => Answer::Refused(why),
+        Preparation::Ready(prepared) => {
+            if !last_premise(prepared, x) {
+                return Answer::Refused(Refusal::PremiseFails);
+            }
+            toward_zero_steps(prepared, x)
+        }
+    }
+}
+
+// The same without a test. Refuses 1, 3, 8.
+pub fn ulp_toward_zero_unbranched(format: Format, x: Number) -> Answer
+    ensures { λ r. ⌜ r ≡ ulpRoute format x ⌝ }
+{
+    match enter(format, x) {
+        Preparation::Refused(why) => Answer::Refused(why),
+        Preparation::Ready(prepared) => {
+            if !last_premise(prepared, x) {
+                return Answer::Refused(Refusal::PremiseFails);
+            }
+            unbranched_steps(prepared, x)
+        }
+    }
+}
