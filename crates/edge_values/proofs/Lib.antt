@@ -1,0 +1,2 @@
+-- The starred values, proved.
+pub mod Table

@@ -1,0 +1,31 @@
+-- The starred values are what the definitions give: one table, one test that the checker computes, and a law for each row.
+use Prim.Native.Nat.{ℕ}
+use mathlib.Core.Path.{_≡_, refl, ap}
+use mathlib.Core.Bool.{xor}
+use mathlib.Core.List.{List, [], _∷_, map}
+use lib.ListN.{getD}
+use Rattle.theory.specs.Tests.{_and_, _or_, unless}
+use Rattle.theory.specs.Place.{search-place, place, step}
+use Rattle.theory.specs.Neighbours.{floor-to, ceil-to, lower, upper, lowerQ, upperQ}
+use Rattle.theory.specs.Round.{location, chosen, takes-upper, round}
+use Rattle.theory.specs.Signed.{roundZ, predecessor, successor}
+use Rattle.theory.specs.Units.{ufp, ulp, search-zeros, zeros, uls}
+use Rattle.format.specs.Formats.{exponentsAdmitted, admitted}
+use Rattle.format.specs.Directions.{isDirection, direction}
+use Rattle.number.specs.Numbers.{equalZ, normal, small, isZero, member, magnitude, value, greatest, number, delivered}
+use Rattle.number.specs.Entry.{all, entry, after}
+use Rattle.units.specs.Places.{firstPlace, lastPlace, leastPlace}
+use Rattle.units.specs.Neighbours.{predecessorOf, successorOf}
+use Rattle.arithmetic.specs.Operations.{rounded, roundedZ, roundedQuotient, summed, divided}
+use Rattle.rump.specs.Routes.{premise, firstPremise, ufpRoute}
+use Rattle.fast_two_sum.specs.Calls.{isBinary, ordered, then, threeSteps, fastTwoSum}
+use Rattle.edge_values.specs.Rows.{Row, Result, off, rows}
+
+-- the test
+pub computed : map (λ (r : Row). r .call) rows ≡ map (λ (r : Row). r .paper) rows
+unfolding rows _and_ _or_ unless search-place place step floor-to ceil-to lower upper lowerQ upperQ location chosen takes-upper round roundZ predecessor successor ufp ulp search-zeros zeros uls exponentsAdmitted admitted isDirection direction equalZ normal small isZero member magnitude value greatest number delivered all entry after firstPlace lastPlace leastPlace predecessorOf successorOf rounded roundedZ roundedQuotient summed divided isBinary ordered then threeSteps fastTwoSum premise firstPremise ufpRoute xor
+computed = refl
+
+-- so each row holds: the call's answer is the paper's
+pub row : (i : ℕ) → getD (map (λ (r : Row). r .call) rows) i (off 0) ≡ getD (map (λ (r : Row). r .paper) rows) i (off 0)
+row i = ap (λ (l : List Result). getD l i (off 0)) computed
