@@ -1,6 +1,7 @@
--- Laws of digits, of lines fed byte by byte, and of input in blocks.
+-- Laws of digits, of places and neighbours as patterns, of lines fed byte by byte, and of input in blocks.
 pub mod Digits
-pub mod InFormat
+pub mod PatternPlaces
+pub mod PatternNeighbours
 pub mod Stores
 pub mod LineLaws
 pub mod BlockLaws

@@ -1,7 +1,7 @@
 -- The line that is printed for a line that was read.
 use Prim.Native.Nat.{ℕ, zero, suc, _+_, _/_, _%_, _^_}
 use mathlib.Core.Path.{_≡_}
-use mathlib.Core.Bool.{true, cond}
+use mathlib.Core.Bool.{cond}
 use mathlib.Core.List.{List, [], _∷_, _++_}
 use lib.Dec.{eqb, ltb}
 use lib.ListN.{length}
@@ -10,7 +10,6 @@ use Rattle.format.specs.Published.{binary32}
 use Rattle.number.specs.declared.Number.{Number}
 use Rattle.number.specs.declared.Answer.{Answer}
 use Rattle.number.specs.declared.Answer.the-variants as answer
-use Rattle.number.specs.Numbers.{member}
 use Rattle.units.specs.Places.{firstPlace, lastPlace}
 use Rattle.units.specs.Neighbours.{predecessorOf, successorOf}
 use Rattle.binary32.specs.declared.Pattern.{Pattern}
@@ -92,7 +91,3 @@ textOf l = cond (eqb (l .count) 8) (patternText (l .value)) badLine
 pub record Put (at : ℕ) (text before : List ℕ) (next : ℕ) (after : List ℕ) : Type 0 where
   pub ends : next ≡ at + length text
   pub holds : after ≡ sets before at text
-
--- ---- what is written as a pattern is a number of format 2
-abbrev pub InFormat : Answer → Type 0
-InFormat a = (x : Number) → a ≡ answer.Value x → member binary32 x ≡ true

@@ -93,7 +93,7 @@ fn put_pattern(out: &mut [u8], at: usize, pattern: u32) -> usize
     let next = put_field(out, at, Pattern::Written(pattern), 32);
     match read_pattern(pattern) {
         Answer::Refused(_) => put_text(out, next, b"refused 9\n"),
-        Answer::Value(x) => put_places(out, next, places_of(x)),
+        Answer::Value(_) => put_places(out, next, places_of(pattern)),
     }
 }
 

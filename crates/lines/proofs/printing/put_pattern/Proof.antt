@@ -1,8 +1,10 @@
 -- `lines::printing::put_pattern` meets its contract.
 use borrow.Author.Needs.{needs}
-use mathlib.Core.Path.{sym, ap, _∙_}
+use mathlib.Core.Path.{_≡_, sym, ap, _∙_}
+use mathlib.Core.Bool.{true}
 use mathlib.Core.List.{_∷_, _++_}
-use Rattle.binary32.proofs.RoundTrips.{read-member}
+use Rattle.binary32.specs.Patterns.{finite}
+use Rattle.binary32.proofs.RoundTrips.{reads, read-made}
 use Rattle.number.specs.declared.Answer.{Answer}
 use Rattle.lines.specs.declared.Places.{Places}
 use Rattle.lines.specs.Printing.{eightDigits, spaced, fields, answeredText, patternText, lineFeed}
@@ -25,14 +27,17 @@ slice-aggregate-put-text c = search needs
 put-text-requires : tie.Need-put-text-requires
 put-text-requires c κs = search needs
 
-enum-known-x : tie.Need-enum-known-x
-enum-known-x c = search needs
+enum-told-2 : tie.Need-enum-told-2
+enum-told-2 c = search needs
+
+-- past the match the pattern is finite
+passed : (c : tie.After-enum-told2) → finite (c .before .before .before .before .before .before .before .before .args .pattern) ≡ true
+passed c =
+    let r = c .before .before in
+    reads (r .before .before .before .before .before .before .args .pattern) (sym (r .read-pattern .ensures) ∙ c .enum-told2 .given .1) .finite
 
 places-of-requires : tie.Need-places-of-requires
-places-of-requires c κs =
-    let m = c .before .before in
-    let r = m .before .before in
-    read-member (r .before .before .before .before .before .before .args .pattern) (sym (r .read-pattern .ensures) ∙ m .x .given .1)
+places-of-requires c κs = passed (c .before)
 
 put-places-requires : tie.Need-put-places-requires
 put-places-requires c κs = search needs
@@ -58,12 +63,11 @@ unfolding patternText
 returns-2 c =
     let p = c .before .before in
     let q = p .before in
-    let x = q .before .before .before in
-    let r = x .before .before in
-    let f = r .before .before .before in
+    let t = q .before .before in
+    let f = t .before .before .before .before .before in
     let n = f .before .before .before .args .pattern in
     put-as
-    (ap (λ (q : Places). spaced (eightDigits n ∷ fields q) ++ lineFeed) (q .places-of .ensures) ∙ ap (λ (a : Answer). answeredText n a ++ lineFeed) (sym (sym (r .read-pattern .ensures) ∙ x .x .given .1)))
+    (ap (λ (q : Places). spaced (eightDigits n ∷ fields q) ++ lineFeed) (q .places-of .ensures) ∙ ap (λ (a : Answer). answeredText n a ++ lineFeed) (sym (read-made n (passed t))))
     (put-after (f .put-field .ensures) (p .put-places .ensures))
 
 pub put-pattern-spec : {M : Type 1} → statement M
@@ -75,7 +79,7 @@ put-pattern-spec =
     enum-told
     slice-aggregate-put-text
     put-text-requires
-    enum-known-x
+    enum-told-2
     places-of-requires
     put-places-requires
     same-length
