@@ -124,6 +124,13 @@ zurkeb_number_answer zurkeb_difference(zurkeb_format format, uint32_t direction,
 zurkeb_number_answer zurkeb_product(zurkeb_format format, uint32_t direction, zurkeb_number a, zurkeb_number b);
 zurkeb_number_answer zurkeb_quotient(zurkeb_format format, uint32_t direction, zurkeb_number a, zurkeb_number b);
 
+/* Rump's routes by the operations alone: the first place by figure 1, the last place by figures 3, 4 and 5. Where the premise
+ * holds they answer what zurkeb_ufp and zurkeb_ulp answer. Refuse 1, 3, 8. */
+zurkeb_number_answer zurkeb_ufp_toward_zero(zurkeb_format format, zurkeb_number x);
+zurkeb_number_answer zurkeb_ulp_upward(zurkeb_format format, zurkeb_number x);
+zurkeb_number_answer zurkeb_ulp_toward_zero(zurkeb_format format, zurkeb_number x);
+zurkeb_number_answer zurkeb_ulp_toward_zero_unbranched(zurkeb_format format, zurkeb_number x);
+
 /* FastTwoSum: x from a + b, z from x - a, y from b - z, each in its own direction. Refuses 1, 2, 3, 6, 7, 5. */
 zurkeb_triple_answer zurkeb_fast_two_sum(zurkeb_format format, uint32_t first, uint32_t second, uint32_t third, zurkeb_number a,
                                          zurkeb_number b);

@@ -71,11 +71,27 @@ static void operations(uint32_t a, uint32_t b) {
     }
 }
 
+/* Rump's routes against the places. */
+static void routes(zurkeb_format f, zurkeb_number x) {
+    zurkeb_number_answer ufp = zurkeb_ufp(f, x), ulp = zurkeb_ulp(f, x);
+    zurkeb_number_answer by[4] = {zurkeb_ufp_toward_zero(f, x), zurkeb_ulp_upward(f, x), zurkeb_ulp_toward_zero(f, x),
+                                  zurkeb_ulp_toward_zero_unbranched(f, x)};
+    for (int i = 0; i < 4; i++) {
+        zurkeb_number wanted = i == 0 ? ufp.number : ulp.number;
+        comparisons++;
+        if (by[i].refusal == ZURKEB_PREMISE_FAILS)
+            continue;
+        if (by[i].refusal != 0 || by[i].number.significand != wanted.significand || by[i].number.exponent != wanted.exponent)
+            fail("route", x.significand, (uint32_t)x.exponent, (uint32_t)i, by[i].number.significand, wanted.significand);
+    }
+}
+
 static void neighbours(uint32_t a) {
     zurkeb_format f = zurkeb_published(2).format;
     zurkeb_number_answer x = zurkeb_read_pattern(a);
     if (x.refusal != 0)
         return;
+    routes(f, x.number);
     zurkeb_number_answer up = zurkeb_successor(f, x.number), down = zurkeb_predecessor(f, x.number);
     float u = nextafterf(of_pattern(a), INFINITY), l = nextafterf(of_pattern(a), -INFINITY);
     uint64_t ours = up.refusal ? (uint64_t)up.refusal << 32 : zurkeb_write_pattern(up.number);
@@ -129,6 +145,13 @@ static void interface(void) {
     same("difference", zurkeb_difference(d, 0, one, one).number.significand, 0);
     same("product", zurkeb_product(d, 0, greatest, greatest).refusal, ZURKEB_TOO_LARGE);
     same("quotient", zurkeb_quotient(d, 0, one, zero).refusal, ZURKEB_DIVISOR_ZERO);
+    zurkeb_format routes = {10, 3, -3, 3}, short_of = {10, 3, -2, 3};
+    zurkeb_number unit = {false, 100, -2};
+    same("ufp_toward_zero", zurkeb_ufp_toward_zero(routes, unit).number.significand, 100);
+    same("ufp_toward_zero", zurkeb_ufp_toward_zero(short_of, unit).refusal, ZURKEB_PREMISE_FAILS);
+    same("ulp_upward", zurkeb_ulp_upward(d, one).number.exponent == -4, 1);
+    same("ulp_toward_zero", zurkeb_ulp_toward_zero(d, one).number.exponent == -4, 1);
+    same("ulp_toward_zero_unbranched", zurkeb_ulp_toward_zero_unbranched(d, one).number.exponent == -4, 1);
     zurkeb_number four = {false, 4, 0}, half = {false, 4, -3}, sixteenth = {false, 4, -6};
     same("fast_two_sum", zurkeb_fast_two_sum(d, 0, 0, 0, one, one).refusal, ZURKEB_NOT_BINARY);
     same("fast_two_sum", zurkeb_fast_two_sum(two, 3, 3, 3, half, four).refusal, ZURKEB_SMALLER_FIRST);

@@ -3,6 +3,7 @@
 pub mod answers;
 pub mod numbers;
 pub mod patterns;
+pub mod routes;
 pub mod steps;
 
 use fast_two_sum::Steps;
