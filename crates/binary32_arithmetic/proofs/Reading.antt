@@ -17,7 +17,6 @@ use Rattle.binary32.specs.declared.Pattern.the-variants as pattern
 use Rattle.binary32.specs.Patterns.{finite, numberRead, patternRead, answerWritten}
 use Rattle.binary32.proofs.RoundTrips.{reads, read-made, read-member}
 use Rattle.binary32_arithmetic.specs.declared.Pair.{Pair}
-use Rattle.binary32_arithmetic.specs.declared.Operands.{Operands}
 use Rattle.binary32_arithmetic.specs.declared.Operands.the-variants.{Both, Refused}
 use Rattle.binary32_arithmetic.specs.Calls.{operandsOf, onPatterns}
 

@@ -1,7 +1,7 @@
 -- Demand 3 of our own sum and our own check: the sum hands out a triple, each step rounded in its own direction, unless a + b
 -- rounded in the first direction is too large; then, and only then, it refuses. The check says yes exactly to a triple.
 use Prim.Native.Nat.{ℕ, _≤_, _<_}
-use mathlib.Core.Path.{_≡_, refl, sym, ap, ap₂, subst, _∙_}
+use mathlib.Core.Path.{_≡_, refl, sym, ap, subst, _∙_}
 use mathlib.Core.Bool.{Bool, true, false, cond}
 use mathlib.Core.List.{[], _∷_}
 use mathlib.Core.Logic.{_⊎_, inl, inr, ⊎-elim}
@@ -16,28 +16,25 @@ use Rattle.theory.proofs.Round.{Nearest}
 use Rattle.theory.proofs.Faithful.{roundZ-faithful}
 use Rattle.theory.proofs.FastTwoSum.{rounded-triple, z-at-most, y-at-most, nearest-exact}
 use Rattle.format.specs.declared.Format.{Format}
-use Rattle.format.specs.declared.Verdict.{Verdict}
 use Rattle.format.specs.declared.Refusal.the-variants.{TooLarge}
-use Rattle.format.specs.Directions.{isDirection, direction}
+use Rattle.format.specs.Directions.{direction}
 use Rattle.format.proofs.Formats.{Admitted, admitted-made, positional}
 use Rattle.number.specs.declared.Number.{Number}
-use Rattle.number.specs.Numbers.{member, magnitude, value, greatest}
+use Rattle.number.specs.Numbers.{member, value, greatest}
 use Rattle.number.specs.Entry.{all, entry, after}
 use Rattle.number.proofs.Membership.{Member, members, member-made}
 use Rattle.number.proofs.Values.{member-greatest}
 use Rattle.number.proofs.Entries.{after-passed, entry-made, pair-made}
 use Rattle.arithmetic.specs.Operations.{roundedZ}
-use Rattle.fast_two_sum.specs.declared.StepsAnswer.{StepsAnswer}
 use Rattle.fast_two_sum.specs.declared.StepsAnswer.the-variants as steps
 use Rattle.fast_two_sum.specs.declared.Steps.{Steps}
-use Rattle.fast_two_sum.specs.declared.Checked.{Checked}
 use Rattle.fast_two_sum.specs.declared.Checked.the-variants as checked
-use Rattle.fast_two_sum.specs.Triples.{Summands, Triple, Bound, distance}
+use Rattle.fast_two_sum.specs.Triples.{Summands, Triple, distance}
 use Rattle.fast_two_sum.specs.Calls.{isTriple, threeSteps, fastTwoSum, checkedTriple}
 use Rattle.fast_two_sum.proofs.Bounds.{none, value-size, value-wide}
 use Rattle.fast_two_sum.proofs.Order.{binary-made, order-made}
 use Rattle.fast_two_sum.proofs.Entered.{Directed}
-use Rattle.fast_two_sum.proofs.Results.{Given, Beyond, rounded-cases}
+use Rattle.fast_two_sum.proofs.Results.{Given, rounded-cases}
 use Rattle.fast_two_sum.proofs.Chain.{first-ends, three-given}
 use Rattle.fast_two_sum.proofs.Faithfulness.{test-triple, triple-test}
 

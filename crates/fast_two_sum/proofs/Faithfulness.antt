@@ -1,11 +1,10 @@
 -- The check's test is the paper's faithfulness: what is computed from two roundings, and what a passed check says.
-use mathlib.Core.Path.{_≡_, refl, sym, ap, ap₂, subst, _∙_}
+use mathlib.Core.Path.{_≡_, sym, ap, _∙_}
 use mathlib.Core.Bool.{Bool, true, false}
 use mathlib.Core.Logic.{_⊎_, inl, inr, ⊎-elim}
-use lib.IntN.{ℤ, _+ℤ_, _-ℤ_}
+use lib.IntN.{ℤ}
 use Rattle.theory.specs.Tests.{_and_, _or_}
 use Rattle.theory.specs.Round.{upward, downward}
-use Rattle.theory.specs.Signed.{roundZ}
 use Rattle.theory.specs.Faithful.{Faithful}
 use Rattle.theory.proofs.Tests.{and-left, and-right, and-made, or-cases, or-left, or-right}
 use Rattle.theory.proofs.Faithful.{faithful-cases, cases-faithful}
@@ -13,7 +12,7 @@ use Rattle.format.specs.declared.Format.{Format}
 use Rattle.format.proofs.Formats.{Admitted, positional}
 use Rattle.number.specs.declared.Number.{Number}
 use Rattle.number.specs.declared.Answer.{Answer}
-use Rattle.number.specs.Numbers.{equalZ, member, value}
+use Rattle.number.specs.Numbers.{member, value}
 use Rattle.number.proofs.Membership.{Member, member-made, equal-true, equal-made}
 use Rattle.arithmetic.specs.Operations.{roundedZ}
 use Rattle.fast_two_sum.specs.Triples.{Triple}

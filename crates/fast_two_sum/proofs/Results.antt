@@ -1,5 +1,5 @@
 -- A step's answer: a number of the format with the rounded value, or refusal 5 where that is beyond the greatest number.
-use Prim.Native.Nat.{ℕ, _≤_, _<_}
+use Prim.Native.Nat.{ℕ, _<_}
 use mathlib.Core.Path.{_≡_, refl, sym, ap, subst, _∙_}
 use mathlib.Core.Bool.{Bool, true, false}
 use mathlib.Core.Logic.{_⊎_, inl, inr, ⊎-elim}
@@ -19,7 +19,7 @@ use Rattle.format.proofs.Formats.{Admitted, positional}
 use Rattle.number.specs.declared.Number.{Number}
 use Rattle.number.specs.declared.Answer.{Answer}
 use Rattle.number.specs.declared.Answer.the-variants.{Value, Refused}
-use Rattle.number.specs.Numbers.{equalZ, member, magnitude, value, greatest, number, delivered}
+use Rattle.number.specs.Numbers.{equalZ, member, value, greatest, number, delivered}
 use Rattle.number.proofs.Membership.{Member, member-made, equal-true}
 use Rattle.number.proofs.Values as values
 use Rattle.arithmetic.specs.Operations.{rounded, roundedZ}

@@ -1,20 +1,20 @@
 -- What an admitted format has, as facts on natural numbers that `omega` reads, and how it is made.
-use Prim.Native.Nat.{ℕ, _+_, _*_, _-_, _^_, _≤_}
+use Prim.Native.Nat.{_+_, _*_, _-_, _^_, _≤_}
 use mathlib.Core.Path.{_≡_, refl, ap, _∙_}
 use mathlib.Core.Bool.{true}
 use native.Mathlib.Omega.{arith}
 use native.Mathlib.Nat.{mul-comm}
 use lib.Dec.{leb}
-use lib.IntN.{ℤ, pos, negsuc, natAbs, _-ℤ_}
+use lib.IntN.{ℤ, pos, negsuc, _-ℤ_}
 use lib.Signed.{leZ}
 use borrow.Author.Tests.{leb-true, le-leb}
 use Rattle.theory.specs.Tests.{_and_}
 use Rattle.theory.specs.Place.{Positional}
 use Rattle.theory.proofs.Tests.{and-left, and-right, and-made}
-use Rattle.theory.proofs.Integers.{above, below, diff-parts, size-parts}
+use Rattle.theory.proofs.Integers.{above, below, diff-parts}
 use Rattle.theory.proofs.Powers.{pow-mono, pow-pred}
 use Rattle.format.specs.declared.Format.{Format}
-use Rattle.format.specs.Formats.{greatestPower, exponentsAdmitted, admitted, scaleOf, highestPlace, Scaled}
+use Rattle.format.specs.Formats.{greatestPower, exponentsAdmitted, admitted, scaleOf, Scaled}
 use Rattle.format.proofs.Signed.{Upto, apart, le-true, make-le}
 
 -- -1200 ≤ emin ≤ emax ≤ 1200

@@ -1,17 +1,17 @@
 -- The order of numbers is the order of their values: first by sign, then by exponent, then by significand.
 use mathlib.Core.Path.{_≡_, refl, sym, ap, ap₂, _∙_}
-use mathlib.Core.Bool.{Bool, true, false, cond}
+use mathlib.Core.Bool.{Bool, true, false}
 use Prim.Native.Nat.{ℕ, zero, suc, _+_, _*_, _-_, _^_, _≤_, _<_}
 use native.Mathlib.Omega.{arith}
 use native.Mathlib.Nat.{pow-succ', mul-le-mul, mul-lt-mul-of-pos-right, mul-pos}
-use lib.IntN.{ℤ, pos, negsuc, negℤ, natAbs, _-ℤ_}
+use lib.IntN.{ℤ, pos, negℤ, _-ℤ_}
 use lib.Signed.{ltZ, _<ℤ_}
 use lib.Dec.{ltb}
 use borrow.Author.Tests.{lt-ltb, le-ltb, ltb-true, ltb-false}
 use Rattle.theory.specs.Signed.{signed}
 use Rattle.theory.proofs.Tests.{never}
 use Rattle.theory.proofs.Integers.{above, below, neg-above, neg-below, diff-parts, size-parts, parts-eq, parts-lt, lt-parts}
-use Rattle.theory.proofs.Powers.{pow-add, pow-pos, pow-pred, pow-mono}
+use Rattle.theory.proofs.Powers.{pow-pos, pow-pred, pow-mono}
 use Rattle.format.specs.declared.Format.{Format}
 use Rattle.format.specs.declared.Refusal.{Refusal}
 use Rattle.format.proofs.Signed.{Upto, Under, apart, lt-true, lt-false, make-lt, make-ge}
@@ -22,7 +22,6 @@ use Rattle.number.specs.declared.Ordered.the-variants.{Less, Equal, Grea
 use Rattle.number.specs.Numbers.{placeOf, magnitude, value}
 use Rattle.number.specs.Order.{ordered, orderN, orderZ}
 use Rattle.number.proofs.Membership.{Member}
-use Rattle.number.proofs.Values.{member-unique}
 
 -- digits of a higher place outweigh all below
 outweighed : (β q m n j k : ℕ) → 2 ≤ β → m < β * β ^ q → β ^ q ≤ n → j < k → m * β ^ j < n * β ^ k

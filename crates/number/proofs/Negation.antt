@@ -1,7 +1,6 @@
 -- Negation turns the sign of the value, negating twice gives the number back, and the magnitude has the value without its sign.
 use mathlib.Core.Path.{_≡_, refl, sym, ap, _∙_}
-use mathlib.Core.Bool.{Bool, true, false, not}
-use mathlib.Core.List.{[], _∷_}
+use mathlib.Core.Bool.{Bool, false, not}
 use Prim.Native.Nat.{zero, suc}
 use lib.IntN.{ℤ, pos, negsuc, negℤ}
 use Rattle.theory.specs.Signed.{signed}
@@ -11,7 +10,7 @@ use Rattle.format.proofs.Formats.{Admitted}
 use Rattle.number.specs.declared.Number.{Number}
 use Rattle.number.specs.Numbers.{magnitude, value, number}
 use Rattle.number.proofs.Membership.{Member}
-use Rattle.number.proofs.Values.{member-wide, member-greatest, number-magnitude, number-value, number-member, number-of, member-unique}
+use Rattle.number.proofs.Values.{member-wide, member-greatest, number-value, number-member, member-unique}
 
 negated-back : (v : ℤ) → negℤ (negℤ v) ≡ v
 negated-back (pos zero) = refl

@@ -7,16 +7,16 @@ use mathlib.Core.Logic.{_⊎_, inl, inr, ⊎-elim}
 use native.Mathlib.Omega.{arith}
 use native.Mathlib.Nat.{le-refl, mul-div-cancel, mul-le-mul, mul-le-mul-left, mul-lt-mul-of-pos-left, mul-lt-mul-of-pos-right, mul-pos, zero-mul, pow-zero}
 use lib.Dec.{eqb, leb}
-use lib.IntN.{ℤ, pos, negsuc, natAbs, _+ℤ_, _-ℤ_}
+use lib.IntN.{ℤ, pos, natAbs, _+ℤ_, _-ℤ_}
 use borrow.Author.Tests.{leb-true, leb-false, le-leb, lt-leb, ne-eqb, eq-eqb}
-use Rattle.theory.specs.Place.{Positional, place, step}
+use Rattle.theory.specs.Place.{place, step}
 use Rattle.theory.specs.Wide.{Wide, Canonical}
 use Rattle.theory.specs.Signed.{signed}
 use Rattle.theory.proofs.Integers.{above, below, sum-parts, diff-parts, size-parts, parts-eq, size-signed}
 use Rattle.theory.proofs.Powers.{pow-add, pow-pos, pow-pred, pow-mono, pow-half}
 use Rattle.theory.proofs.Place.{place-le}
 use Rattle.theory.proofs.Wide.{wide-pow}
-use Rattle.theory.proofs.Canonical.{canonical-place, canonical-wide, canonical-unique, canonical-of, canonical-value}
+use Rattle.theory.proofs.Canonical.{canonical-place, canonical-wide, canonical-of, canonical-value}
 use Rattle.theory.proofs.Tests.{unless-passed, unless-failed}
 use Rattle.format.specs.declared.Format.{Format}
 use Rattle.format.specs.declared.Refusal.the-variants.{TooLarge}
@@ -27,7 +27,7 @@ use Rattle.number.specs.declared.Number.{Number}
 use Rattle.number.specs.declared.Answer.the-variants.{Value, Refused}
 use Rattle.number.specs.Numbers.{placeOf, magnitude, value, greatest, number, delivered}
 use Rattle.number.specs.Signs.{withSign}
-use Rattle.number.proofs.Membership.{Member, full-positive}
+use Rattle.number.proofs.Membership.{Member}
 
 -- ---- exponents and places
 -- emin + (e - emin) is e

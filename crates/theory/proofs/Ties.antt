@@ -1,8 +1,8 @@
 -- Directions 0 and 1 at a tie, where the value lies exactly in the middle of its two neighbours, n and n + 1 times the step
 -- between them: direction 0 takes the even one of n and n + 1, direction 1 the one away from zero.
-use Prim.Native.Nat.{ℕ, suc, _^_, _+_, _*_, _-_, _/_, _%_, _≤_, _<_}
-use mathlib.Core.Path.{_≡_, refl, sym, ap, ap₂, _∙_}
-use mathlib.Core.Bool.{Bool, true, false, cond}
+use Prim.Native.Nat.{ℕ, _^_, _+_, _*_, _-_, _/_, _%_, _≤_, _<_}
+use mathlib.Core.Path.{_≡_, sym, ap, ap₂, _∙_}
+use mathlib.Core.Bool.{Bool}
 use native.Mathlib.Nat.{le-antisymm, le-trans, lt-of-le-of-lt, mul-pos, mul-div-cancel, le-div-iff-mul-le, mul-le-mul-right, le-of-mul-le-mul-right, lt-of-mul-lt-mul-right, div-mul-le-self}
 use native.Mathlib.Omega.{arith}
 use lib.Dec.{eqb}
@@ -11,12 +11,11 @@ use Rattle.theory.specs.Place.{Positional, place, step}
 use Rattle.theory.specs.Wide.{Wide}
 use Rattle.theory.specs.Neighbours.{lowerQ, upperQ}
 use Rattle.theory.specs.Round.{Direction, nearest-even, nearest-away, half, location, chosen, takes-upper, round}
-use Rattle.theory.proofs.Powers.{pow-add}
-use Rattle.theory.proofs.Multiples.{Multiple, multiple-of, multiple-power, multiple-le, multiple-gap}
+use Rattle.theory.proofs.Multiples.{multiple-of, multiple-power, multiple-le, multiple-gap}
 use Rattle.theory.proofs.Place.{place-fits, place-mono, step-pos}
 use Rattle.theory.proofs.Wide.{wide-low, wide-multiple}
 use Rattle.theory.proofs.Neighbours.{lower-multiple, lowerQ-le, lowerQ-greatest, upperQ-wide, le-upperQ, upperQ-least}
-use Rattle.theory.proofs.Round.{Located, location-is, middle}
+use Rattle.theory.proofs.Round.{location-is, middle}
 
 -- N / D lies in the middle between n and n + 1 steps
 pub record Tie (β p N D n : ℕ) : Type 0 where

@@ -1,5 +1,5 @@
 -- From a passed check to the inner functions and back.
-use mathlib.Core.Path.{_≡_, refl, sym, ap, _∙_}
+use mathlib.Core.Path.{_≡_, refl, ap, _∙_}
 use mathlib.Core.Bool.{true}
 use mathlib.Core.List.{[], _∷_}
 use Rattle.theory.proofs.Tests.{and-made}

@@ -8,7 +8,7 @@ use mathlib.Core.Logic.{_⊎_, inl, inr, ⊎-elim}
 use native.Mathlib.Nat.{le-of-suc-le-suc, lt-of-not-le}
 use native.Mathlib.Omega.{arith}
 use lib.Dec.{leb}
-use lib.IntN.{ℤ, negℤ, natAbs}
+use lib.IntN.{ℤ, natAbs}
 use lib.Signed.{_≤ℤ_, _<ℤ_}
 use borrow.Author.Tests.{leb-true, leb-false}
 use Rattle.theory.specs.Wide.{Wide}
@@ -22,7 +22,6 @@ use Rattle.format.specs.declared.Refusal.the-variants.{TooLarge}
 use Rattle.format.proofs.Formats.{Admitted, positional}
 use Rattle.format.proofs.Signed.{apart}
 use Rattle.number.specs.declared.Number.{Number}
-use Rattle.number.specs.declared.Answer.{Answer}
 use Rattle.number.specs.declared.Answer.the-variants.{Value, Refused}
 use Rattle.number.specs.Numbers.{magnitude, value, greatest, number, delivered}
 use Rattle.number.specs.Entry.{entry, after}

@@ -3,21 +3,21 @@ use Prim.Native.Nat.{ℕ, zero, suc, _^_, _+_, _*_, _-_, _≤_, _<_}
 use mathlib.Core.Path.{_≡_, refl, sym, ap, ap₂, _∙_}
 use mathlib.Core.Bool.{Bool, true, false, not, _&&_}
 use mathlib.Core.Logic.{_⊎_}
-use native.Mathlib.Nat.{zero-mul, lt-of-not-le, mul-le-mul-right}
+use native.Mathlib.Nat.{zero-mul, lt-of-not-le}
 use native.Mathlib.Omega.{arith}
 use lib.Dec.{eqb}
-use lib.IntN.{ℤ, pos, _+ℤ_}
+use lib.IntN.{ℤ, pos}
 use Rattle.theory.specs.Wide.{Canonical}
 use Rattle.theory.specs.Signed.{signed}
 use Rattle.theory.specs.Units.{ufp, ulp, uls, zeros}
 use Rattle.theory.specs.Neighbours.{lower, upper}
-use Rattle.theory.proofs.Powers.{pow-pos, pow-mono}
+use Rattle.theory.proofs.Powers.{pow-mono}
 use Rattle.theory.proofs.Units.{ufp-shift, ulp-canonical, uls-shift, zeros-found}
 use Rattle.format.specs.declared.Format.{Format}
 use Rattle.format.specs.Formats.{highestPlace}
 use Rattle.format.proofs.Formats.{Admitted, positional}
 use Rattle.number.specs.declared.Number.{Number}
-use Rattle.number.specs.Numbers.{placeOf, magnitude, number, delivered}
+use Rattle.number.specs.Numbers.{placeOf, magnitude, number}
 use Rattle.number.proofs.Membership.{Member}
 use Rattle.number.proofs.Values.{place-back, number-same, number-canonical, number-of, own-sign, member-canonical, member-highest}
 use Rattle.units.proofs.Forms.{first-canonical, next-size, carry-size, before-size, below-size}

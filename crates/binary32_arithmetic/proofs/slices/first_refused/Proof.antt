@@ -1,8 +1,8 @@
 -- `binary32_arithmetic::slices::first_refused` meets its contract: what is left answers what the whole answers.
 use borrow.Author.Needs.{needs}
 use native.Mathlib.Omega.{arith}
-use mathlib.Core.Path.{_≡_, sym, ap, _∙_}
-use Prim.Native.Nat.{ℕ, _≤_, _<_, _-_, _+_}
+use mathlib.Core.Path.{_≡_, sym, _∙_}
+use Prim.Native.Nat.{ℕ, _≤_, _-_, _+_}
 use lib.ListN.{length, drop, getD}
 use Rattle.format.specs.Directions.{sense}
 use Rattle.binary32.specs.declared.Pattern.{Pattern}

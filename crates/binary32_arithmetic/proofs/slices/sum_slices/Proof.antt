@@ -12,7 +12,6 @@ use Rattle.theory.specs.Round.{Direction}
 use Rattle.theory.proofs.Tests.{and-made, denied, granted, unless-passed, unless-failed}
 use Rattle.format.specs.declared.Refusal.the-variants.{NoSuchDirection, LengthsDiffer}
 use Rattle.format.specs.Directions.{isDirection, direction}
-use Rattle.binary32_arithmetic.specs.declared.SliceAnswer.{SliceAnswer}
 use Rattle.binary32_arithmetic.specs.declared.SliceAnswer.the-variants.{Refused}
 use Rattle.binary32_arithmetic.specs.Slices.{firstRefused, sums, slicesAnswer}
 use Rattle.binary32_arithmetic.proofs.Passes.{never-plain}

@@ -1,10 +1,10 @@
 -- `binary32_arithmetic::slices::write_sums` meets its contract: what is written and the sums of the rest are all sums.
 use borrow.Author.Needs.{needs}
 use native.Mathlib.Omega.{arith}
-use mathlib.Core.Path.{_≡_, refl, sym, ap, _∙_}
+use mathlib.Core.Path.{_≡_, sym, ap, _∙_}
 use mathlib.Core.List.{_++_, append-nil}
 use lib.Seq.{take-all}
-use Prim.Native.Nat.{_≤_, _<_, _-_, _+_}
+use Prim.Native.Nat.{_≤_, _-_, _+_}
 use lib.ListN.{length, take, drop, getD}
 use Rattle.format.specs.Directions.{sense}
 use Rattle.binary32_arithmetic.specs.Calls.{sumOf}

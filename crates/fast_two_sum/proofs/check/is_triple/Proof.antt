@@ -1,6 +1,6 @@
 -- `fast_two_sum::check::is_triple` meets its contract.
 use borrow.Author.Needs.{needs}
-use mathlib.Core.Path.{_≡_, sym, _∙_}
+use mathlib.Core.Path.{sym, _∙_}
 use Rattle.theory.specs.Tests.{_and_}
 use Rattle.theory.proofs.Tests.{never, denied, granted, and-left, and-right, refuted}
 use Rattle.fast_two_sum.specs.Calls.{isTriple}

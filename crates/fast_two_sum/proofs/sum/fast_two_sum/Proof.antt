@@ -1,6 +1,6 @@
 -- `fast_two_sum::sum::fast_two_sum` meets its contract.
 use borrow.Author.Needs.{needs}
-use mathlib.Core.Path.{_≡_, sym, ap, _∙_}
+use mathlib.Core.Path.{_≡_, sym, _∙_}
 use mathlib.Core.List.{[], _∷_}
 use Rattle.theory.specs.Round.{Direction}
 use Rattle.format.specs.declared.Format.{Format}

@@ -3,14 +3,13 @@ use borrow.Author.Needs.{needs}
 use native.Mathlib.Omega.{arith}
 use native.Mathlib.Nat.{le-trans}
 use Prim.Native.Nat.{ℕ, _*_, _-_, _^_}
-use mathlib.Core.Path.{_≡_, sym, ap, ap₂, _∙_}
+use mathlib.Core.Path.{_≡_, sym, ap, _∙_}
 use mir.Syntax.{w32}
 use mir.Val.{SFits}
 use Rattle.theory.proofs.Tests.{granted, denied, unless-passed, unless-failed}
 use Rattle.format.specs.declared.Format.{Format}
 use Rattle.format.specs.declared.Preparation.the-variants.{Ready}
-use Rattle.format.specs.declared.Prepared.{Prepared}
-use Rattle.format.specs.Formats.{greatestPower, preparation, highestPlace, preparedOf}
+use Rattle.format.specs.Formats.{preparation, highestPlace, preparedOf}
 use Rattle.format.proofs.Signed.{back}
 use Rattle.format.proofs.Formats.{Admitted, admits, exponents-made, top-full, full-top}
 use Rattle.format.proofs.admission.prepare.Statement.{statement}

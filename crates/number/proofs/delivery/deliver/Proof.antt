@@ -1,5 +1,4 @@
 -- `number::delivery::deliver` meets its contract.
-use borrow.Author.Needs.{needs}
 use mathlib.Core.Path.{sym, ap, _∙_}
 use native.Mathlib.Omega.{arith}
 use Rattle.number.specs.declared.Answer.the-variants.{Value}

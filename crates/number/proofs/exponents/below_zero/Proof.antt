@@ -6,7 +6,7 @@ use mir.Syntax.{w32}
 use mir.Val.{SFits}
 use mir.Facts.{fits-natAbs, sfits-lit}
 use Rattle.theory.proofs.Integers.{above, below, diff-parts, size-parts}
-use Rattle.format.proofs.Signed.{Upto, Under, apart, fits, not-negative, back, lt-taken, lt-left}
+use Rattle.format.proofs.Signed.{Under, apart, fits, not-negative, back, lt-taken, lt-left}
 use Rattle.format.proofs.Formats.{exponents}
 use Rattle.number.specs.Exponents.{belowZero}
 use Rattle.number.proofs.exponents.below_zero.Statement.{statement}

@@ -6,7 +6,7 @@ use lib.IntN.{ℤ, pos, _+ℤ_}
 use mir.Syntax.{w32}
 use mir.Val.{SFits, toZ}
 use mir.Facts.{toZ-pos}
-use Rattle.theory.proofs.Integers.{above, below, sum-parts}
+use Rattle.theory.proofs.Integers.{sum-parts}
 use Rattle.format.proofs.Signed.{apart, fits, back}
 use Rattle.format.proofs.Formats.{exponents}
 use Rattle.number.proofs.exponents.exponent_at.Statement.{statement}

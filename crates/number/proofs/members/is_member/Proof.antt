@@ -2,13 +2,12 @@
 -- passed make it.
 use borrow.Author.Needs.{needs}
 use native.Mathlib.Omega.{arith}
-use mathlib.Core.Path.{_≡_, sym, ap}
-use Prim.Native.Nat.{_^_, _<_, _≤_}
+use mathlib.Core.Path.{sym}
 use mir.Syntax.{w32}
 use mir.Val.{SFits}
 use Rattle.theory.proofs.Tests.{refuted}
 use Rattle.format.proofs.Signed.{Upto, lt-taken, lt-left}
-use Rattle.number.proofs.Membership.{Member, members, member-made, zero-member, full-positive, Known, decided}
+use Rattle.number.proofs.Membership.{members, member-made, zero-member, full-positive, decided}
 use Rattle.number.proofs.members.is_member.Statement.{statement}
 use Rattle.number.proofs.members.is_member.Tie as tie
 

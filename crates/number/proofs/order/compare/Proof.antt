@@ -1,10 +1,8 @@
 -- `number::order::compare` meets its contract.
 use borrow.Author.Needs.{needs}
-use mathlib.Core.Path.{sym, ap, _∙_}
-use Rattle.theory.proofs.Tests.{and-left, and-right}
-use Rattle.number.specs.Entry.{all}
+use mathlib.Core.Path.{sym, _∙_}
 use Rattle.number.specs.Order.{compared}
-use Rattle.number.proofs.Entries.{Passed, passed, two-members, goes-on, ends}
+use Rattle.number.proofs.Entries.{passed, two-members, goes-on, ends}
 use Rattle.number.proofs.order.compare.Statement.{statement}
 use Rattle.number.proofs.order.compare.Tie as tie
 

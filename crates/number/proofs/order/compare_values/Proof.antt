@@ -1,8 +1,7 @@
 -- `number::order::compare_values` meets its contract.
 use borrow.Author.Needs.{needs}
-use mathlib.Core.Path.{_≡_, ap₂, _∙_}
-use mathlib.Core.Bool.{Bool, true, false}
-use lib.IntN.{ℤ}
+use mathlib.Core.Path.{_≡_, _∙_}
+use mathlib.Core.Bool.{Bool}
 use Rattle.theory.specs.Signed.{signed}
 use Rattle.format.specs.declared.Format.{Format}
 use Rattle.format.proofs.Formats.{admits}

@@ -1,6 +1,6 @@
 -- `units::powers_of_base::leading_power` meets its contract: the loop climbs through the powers of the base that are at most m.
 use Prim.Native.Nat.{ℕ, suc, _^_, _*_, _-_, _/_, _≤_, _<_}
-use mathlib.Core.Path.{_≡_, refl, sym, ap, subst, _∙_}
+use mathlib.Core.Path.{_≡_, sym, ap, subst, _∙_}
 use native.Mathlib.Nat.{pow-zero, pow-suc, mul-comm, le-div-iff-mul-le, div-lt-iff-lt-mul, mul-le-mul-left}
 use native.Mathlib.Omega.{arith}
 use Rattle.theory.specs.Units.{ufp}

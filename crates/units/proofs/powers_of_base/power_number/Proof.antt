@@ -3,11 +3,10 @@ use borrow.Author.Needs.{needs}
 use mathlib.Core.Path.{_≡_, sym, ap, ap₂, subst, _∙_}
 use mathlib.Core.Bool.{false}
 use Prim.Native.Nat.{ℕ, _+_, _*_, _-_, _^_, _≤_, _<_}
-use native.Mathlib.Nat.{le-trans, mul-one, pow-zero}
+use native.Mathlib.Nat.{mul-one, pow-zero}
 use native.Mathlib.Omega.{arith}
 use Rattle.theory.specs.Wide.{Canonical}
 use Rattle.theory.proofs.Powers.{pow-mono}
-use Rattle.format.specs.declared.Format.{Format}
 use Rattle.format.specs.declared.Scale.{Scale}
 use Rattle.format.specs.Formats.{greatestPower, Scaled}
 use Rattle.format.proofs.Formats.{positional}
