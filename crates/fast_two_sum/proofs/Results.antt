@@ -1,27 +1,23 @@
 -- A step's answer: a number of the format with the rounded value, or refusal 5 where that is beyond the greatest number.
 use Prim.Native.Nat.{ℕ, _<_}
 use mathlib.Core.Path.{_≡_, refl, sym, ap, subst, _∙_}
-use mathlib.Core.Bool.{Bool, true, false}
+use mathlib.Core.Bool.{true}
 use mathlib.Core.Logic.{_⊎_, inl, inr, ⊎-elim}
 use native.Mathlib.Omega.{arith}
-use lib.Dec.{leb}
 use lib.IntN.{ℤ, natAbs}
-use borrow.Author.Tests.{leb-true, leb-false}
-use Rattle.theory.specs.Wide.{Wide}
 use Rattle.theory.specs.Round.{Direction, round}
-use Rattle.theory.specs.Signed.{is-negative, roundZ}
-use Rattle.theory.proofs.Tests.{refuted, unless-passed, unless-failed}
-use Rattle.theory.proofs.Round.{round-wide}
-use Rattle.theory.proofs.Integers.{size-signed}
+use Rattle.theory.specs.Signed.{roundZ}
+use Rattle.theory.proofs.Tests.{refuted}
 use Rattle.format.specs.declared.Format.{Format}
 use Rattle.format.specs.declared.Refusal.the-variants.{TooLarge}
-use Rattle.format.proofs.Formats.{Admitted, positional}
+use Rattle.format.proofs.Formats.{Admitted}
 use Rattle.number.specs.declared.Number.{Number}
 use Rattle.number.specs.declared.Answer.{Answer}
 use Rattle.number.specs.declared.Answer.the-variants.{Value, Refused}
-use Rattle.number.specs.Numbers.{equalZ, member, value, greatest, number, delivered}
-use Rattle.number.proofs.Membership.{Member, member-made, equal-true}
+use Rattle.number.specs.Numbers.{equalZ, member, value, greatest, number}
+use Rattle.number.proofs.Membership.{Member, members, member-made, equal-true}
 use Rattle.number.proofs.Values as values
+use Rattle.arithmetic.proofs.Outcome.{Outcome, given, too-large, roundedZ-outcome}
 use Rattle.arithmetic.specs.Operations.{rounded, roundedZ}
 use Rattle.fast_two_sum.specs.Calls.{isResult}
 use Rattle.fast_two_sum.proofs.Bounds.{value-size}
@@ -39,32 +35,12 @@ pub record Beyond (f : Format) (answer : Answer) (v : ℤ) : Type 0 where
 
 module _ {f : Format} (a : Admitted f) (d : Direction) (z : ℤ) where
   pub rounded-cases : ((y : Number) × Given f (roundedZ f d z) (roundZ (f .base) (f .digits) d z 1) y) ⊎ Beyond f (roundedZ f d z) (roundZ (f .base) (f .digits) d z 1)
-  unfolding roundedZ rounded delivered roundZ
-  rounded-cases = by (leb n (greatest f)) refl
+  rounded-cases = by (roundedZ f d z) (roundedZ-outcome a d z) refl
     where
-      n : ℕ
-      n = round (f .base) (f .digits) d (is-negative z) (natAbs z) 1
-
-      w : Wide (f .base) (f .digits) n
-      w = round-wide (positional a) (natAbs z) (omega arith) d (is-negative z)
-
-      by : (t : Bool) → leb n (greatest f) ≡ t
+      by : (r : Answer) → Outcome f d z 1 r → roundedZ f d z ≡ r
           → ((y : Number) × Given f (roundedZ f d z) (roundZ (f .base) (f .digits) d z 1) y) ⊎ Beyond f (roundedZ f d z) (roundZ (f .base) (f .digits) d z 1)
-      by true e =
-          inl (
-            number f (is-negative z) n,
-            record {
-              is = unless-passed _ _ e;
-              number = values.number-member a w (is-negative z) (leb-true _ _ e);
-              same = values.number-value a w (is-negative z);
-            },
-          )
-      by false e =
-          inr
-          (record {
-            is = unless-failed _ _ e;
-            beyond = subst (λ (k : ℕ). greatest f < k) (sym (size-signed (is-negative z) n)) (leb-false _ _ e);
-          })
+      by r (given {x} g) e = inl (x, record { is = e; number = members x a (g .member); same = g .value })
+      by r (too-large l) e = inr (record { is = e; beyond = l })
 
   -- a number that a step gives is in the format
   pub rounded-member : {y : Number} → roundedZ f d z ≡ Value y → member f y ≡ true
