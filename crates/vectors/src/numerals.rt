@@ -34,7 +34,8 @@ fn shifted(value: u32, base: u32) -> u32
     value * 10
 }
 
-// The numeral in the bytes from `start` up to `end`. It has a digit, and its value without the last digit is below 2^28.
+// The numeral in the bytes from `start` up to `end`, in base 16 or else 10. It has a digit, and its value without the last digit is
+// below 2^28. Zeros may lead.
 fn value_of(line: &[u8], start: usize, end: usize, base: u32) -> Natural
     requires { ⌜ (base ≤ 16) × (end ≤ length (now line)) ⌝ }
 {
