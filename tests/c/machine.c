@@ -171,7 +171,7 @@ static void interface(void) {
 }
 
 int main(int count, char **arguments) {
-    uint64_t rounds = count > 1 ? strtoull(arguments[1], NULL, 10) : 250000;
+    uint64_t rounds = count > 1 ? strtoull(arguments[1], NULL, 10) : 2000000;
     static const uint32_t edges[] = {0,          1,          2,          0x007fffffu, 0x00800000u, 0x00800001u, 0x00ffffffu, 0x01000000u,
                                      0x33800000u, 0x34000000u, 0x3f7fffffu, 0x3f800000u, 0x3f800001u, 0x40000000u, 0x4b000000u, 0x4b7fffffu,
                                      0x4b800000u, 0x5f000000u, 0x7e7fffffu, 0x7e800000u, 0x7effffffu, 0x7f000000u, 0x7f7ffffeu, 0x7f7fffffu,
