@@ -1,0 +1,29 @@
+/* The peers: MPFR for binary with 24 digits, Intel's decimal library for decimal32. Where one is not installed, its `installed` is
+ * false and nothing else of it is called. */
+#ifndef BENCH_PEERS_H
+#define BENCH_PEERS_H
+
+#include "operands.h"
+#include "timing.h"
+
+enum operation { SUM, PRODUCT, QUOTIENT, OPERATIONS };
+
+typedef zurkeb_number_answer (*our_call)(zurkeb_format, uint32_t, zurkeb_number, zurkeb_number);
+extern const our_call our_calls[OPERATIONS];
+
+typedef struct peer {
+    bool installed;
+    const char *name, *package;
+    /* Takes over the operands. */
+    void (*prepare)(const pair pairs[PAIRS]);
+    /* One pass of an operation, rounded to nearest, ties to even. */
+    work (*work_of)(enum operation operation);
+    /* Is our direction one of the peer's? */
+    bool (*has_direction)(uint32_t direction);
+    /* Is `ours` the peer's result for the operands with this index? */
+    bool (*agrees)(enum operation operation, uint32_t direction, int index, zurkeb_number ours);
+} peer;
+
+extern const peer mpfr_peer, intel_peer;
+
+#endif
