@@ -12,33 +12,33 @@ use Rattle.theory.specs.Round.{nearest-even}
 use Rattle.theory.proofs.Tests.{and-made, unless-passed}
 use Rattle.format.specs.Directions.{isDirection, direction}
 use Rattle.format.specs.Published.{binary32}
-use Rattle.number.specs.declared.Number.{Number}
-use Rattle.number.specs.declared.Answer.{Answer}
 use Rattle.number.specs.Numbers.{magnitude}
-use Rattle.arithmetic.specs.Operations.{rounded, roundedZ, roundedSum, roundedDifference, roundedProduct, roundedQuotient}
+use Rattle.arithmetic.specs.Operations.{rounded, roundedZ, roundedProduct, roundedQuotient}
 use Rattle.binary32.specs.Patterns.{finite, numberRead, answerWritten}
 use Rattle.binary32.proofs.RoundTrips.{read-made}
 use Rattle.binary32.proofs.StandardPatterns.{patterned, pattern-sum, pattern-difference, pattern-product, pattern-quotient}
-use Rattle.binary32_arithmetic.specs.Calls.{onPatterns, sumOf, differenceOf, productOf, quotientOf, patternSum, patternDifference, patternProduct, patternQuotient}
+use Rattle.binary32_arithmetic.specs.declared.Operation.{Operation}
+use Rattle.binary32_arithmetic.specs.declared.Operation.the-variants.{Sum, Difference, Product, Quotient}
+use Rattle.binary32_arithmetic.specs.Calls.{roundedBy, onPatterns, patternCall}
 
 module _ (a b : ℕ) (ha : finite a ≡ true) (hb : finite b ≡ true) where
   -- the operation of format 2 on what was read
-  called : (operation : Number → Number → Answer) → onPatterns operation a b ≡ answerWritten (operation (numberRead a) (numberRead b))
-  unfolding onPatterns
-  called operation = unless-passed _ _ (and-made ha hb)
+  called : (operation : Operation) → patternCall operation 0 a b ≡ answerWritten (roundedBy operation nearest-even (numberRead a) (numberRead b))
+  unfolding patternCall onPatterns isDirection direction
+  called operation = unless-passed _ _ refl ∙ unless-passed _ _ (and-made ha hb)
 
-  pub sum-agrees : patternSum 0 a b ≡ patterned (add ieee.binary32 (ofBits ieee.binary32 a) (ofBits ieee.binary32 b))
-  unfolding patternSum sumOf isDirection direction roundedZ rounded
-  sum-agrees = unless-passed _ _ refl ∙ called (roundedSum binary32 nearest-even) ∙ sym (pattern-sum a b (read-made a ha) (read-made b hb))
+  pub sum-agrees : patternCall Sum 0 a b ≡ patterned (add ieee.binary32 (ofBits ieee.binary32 a) (ofBits ieee.binary32 b))
+  unfolding roundedZ rounded
+  sum-agrees = called Sum ∙ sym (pattern-sum a b (read-made a ha) (read-made b hb))
 
-  pub difference-agrees : patternDifference 0 a b ≡ patterned (sub ieee.binary32 (ofBits ieee.binary32 a) (ofBits ieee.binary32 b))
-  unfolding patternDifference differenceOf isDirection direction roundedZ rounded
-  difference-agrees = unless-passed _ _ refl ∙ called (roundedDifference binary32 nearest-even) ∙ sym (pattern-difference a b (read-made a ha) (read-made b hb))
+  pub difference-agrees : patternCall Difference 0 a b ≡ patterned (sub ieee.binary32 (ofBits ieee.binary32 a) (ofBits ieee.binary32 b))
+  unfolding roundedZ rounded
+  difference-agrees = called Difference ∙ sym (pattern-difference a b (read-made a ha) (read-made b hb))
 
-  pub product-agrees : patternProduct 0 a b ≡ patterned (mul ieee.binary32 (ofBits ieee.binary32 a) (ofBits ieee.binary32 b))
-  unfolding patternProduct productOf isDirection direction roundedProduct rounded
+  pub product-agrees : patternCall Product 0 a b ≡ patterned (mul ieee.binary32 (ofBits ieee.binary32 a) (ofBits ieee.binary32 b))
+  unfolding roundedProduct rounded
   product-agrees =
-      unless-passed _ _ refl ∙ called (roundedProduct binary32 nearest-even)
+      called Product
       ∙ ap (λ (n : ℕ). answerWritten (rounded binary32 nearest-even (xor (numberRead a .negative) (numberRead b .negative)) n (2 ^ 149)))
       (mul-one (magnitude binary32 (numberRead a) * magnitude binary32 (numberRead b)))
       ∙ sym (pattern-product a b (read-made a ha) (read-made b hb))
@@ -52,8 +52,8 @@ module _ (a b : ℕ) (ha : finite a ≡ true) (hb : finite b ≡ true) where
       (mul-one (magnitude binary32 (numberRead b))))
 
   pub quotient-agrees : 1 ≤ magnitude binary32 (numberRead b)
-      → patternQuotient 0 a b ≡ patterned (div ieee.binary32 (ofBits ieee.binary32 a) (ofBits ieee.binary32 b))
-  unfolding patternQuotient quotientOf isDirection direction rounded
+      → patternCall Quotient 0 a b ≡ patterned (div ieee.binary32 (ofBits ieee.binary32 a) (ofBits ieee.binary32 b))
+  unfolding rounded
   quotient-agrees h =
-      unless-passed _ _ refl ∙ called (roundedQuotient binary32 nearest-even) ∙ ap answerWritten (quotient-is h)
+      called Quotient ∙ ap answerWritten (quotient-is h)
       ∙ sym (pattern-quotient a b (read-made a ha) (read-made b hb) h)

@@ -29,7 +29,8 @@ use Rattle.binary32.specs.Patterns.{fieldOf, finite, magnitudeRead, numberRead,
 use Rattle.binary32.proofs.Fields.{binary32-limits, endless-field}
 use Rattle.binary32.proofs.RoundTrips.{read-made, read-magnitude}
 use Rattle.binary32.proofs.PatternOrder.{magnitude-most}
-use Rattle.binary32_arithmetic.specs.Calls.{sumOf, onPatterns}
+use Rattle.binary32_arithmetic.specs.declared.Operation.the-variants.{Sum}
+use Rattle.binary32_arithmetic.specs.Calls.{onPatterns}
 use Rattle.binary32_arithmetic.specs.Slices.{verdictOf}
 
 -- ---- a value that is not above the greatest number is not too large when it is rounded
@@ -66,8 +67,8 @@ module _ (d : Direction) (a b : ℕ) (ha : a % 2 ^ 31 < 254 * 2 ^ 23) (hb : b % 
   unfolding value
   size n h = size-signed (numberRead n .negative) (magnitude binary32 (numberRead n)) ∙ read-magnitude n (read-made n (half-finite n h))
 
-  pub halves-pass : Passed ≡ verdictOf (sumOf d a b)
-  unfolding sumOf onPatterns
+  pub halves-pass : Passed ≡ verdictOf (onPatterns Sum d a b)
+  unfolding onPatterns
   halves-pass =
       let z = value binary32 (numberRead a) +ℤ value binary32 (numberRead b) in
       let within : natAbs z ≤ greatest binary32 =

@@ -13,7 +13,8 @@ use Rattle.binary32.specs.declared.Pattern.{Pattern}
 use Rattle.binary32.specs.declared.Pattern.the-variants as pattern
 use Rattle.binary32_arithmetic.specs.declared.SliceAnswer.{SliceAnswer}
 use Rattle.binary32_arithmetic.specs.declared.SliceAnswer.the-variants as answer
-use Rattle.binary32_arithmetic.specs.Calls.{sumOf}
+use Rattle.binary32_arithmetic.specs.declared.Operation.the-variants.{Sum}
+use Rattle.binary32_arithmetic.specs.Calls.{onPatterns}
 use Rattle.binary32_arithmetic.specs.Slices.{verdictOf, orElse, firstRefused, written, sums}
 
 -- an entry by its verdict
@@ -26,11 +27,11 @@ refused-entry (pattern.Written n) i rest h = absurd (let z : _≡_ {A = ℕ} 0 1
 refused-entry (pattern.Refused r) i rest {why} h = let e : r ≡ why = cc in ap (λ (w : Refusal). answer.RefusedAt w i) e
 
 module _ (d : Direction) (i : ℕ) (a b : List ℕ) (h : i < length a) (e : length a ≡ length b) where
-  pub found-step : firstRefused d i (drop i a) (drop i b) ≡ orElse (sumOf d (getD a i 0) (getD b i 0)) i (firstRefused d (i + 1) (drop (i + 1) a) (drop (i + 1) b))
+  pub found-step : firstRefused d i (drop i a) (drop i b) ≡ orElse (onPatterns Sum d (getD a i 0) (getD b i 0)) i (firstRefused d (i + 1) (drop (i + 1) a) (drop (i + 1) b))
   unfolding firstRefused
   found-step = let k : i < length b = omega arith in rw (add-one, drop-cons a i 0, drop-cons b i 0)
 
-  pub sums-step : sums d (drop i a) (drop i b) ≡ written (sumOf d (getD a i 0) (getD b i 0)) ∷ sums d (drop (i + 1) a) (drop (i + 1) b)
+  pub sums-step : sums d (drop i a) (drop i b) ≡ written (onPatterns Sum d (getD a i 0) (getD b i 0)) ∷ sums d (drop (i + 1) a) (drop (i + 1) b)
   unfolding sums
   sums-step = let k : i < length b = omega arith in rw (add-one, drop-cons a i 0, drop-cons b i 0)
 
@@ -47,7 +48,7 @@ sums-end d i a b e = rw (drop-end i a e)
 
 -- the entries written so far, and then the sums of the rest
 pub written-step : (d : Direction) (i v : ℕ) (a b out : List ℕ) → i < length a → length a ≡ length b → length a ≡ length out →
-    v ≡ written (sumOf d (getD a i 0) (getD b i 0)) →
+    v ≡ written (onPatterns Sum d (getD a i 0) (getD b i 0)) →
     take (i + 1) (set out i v) ++ sums d (drop (i + 1) a) (drop (i + 1) b) ≡ take i out ++ sums d (drop i a) (drop i b)
 written-step d i v a b out h e g q =
     rw (sums-step d i a b h e, add-one, take-suc-set out i v (omega arith), append-assoc, q)
@@ -57,7 +58,7 @@ pub never-plain : (d : Direction) (i : ℕ) (a b : List ℕ) {why : Refusal} →
 unfolding firstRefused
 never-plain d i [] b h = let z : _≡_ {A = ℕ} 0 1 = cc in omega arith
 never-plain d i (x ∷ a) [] h = let z : _≡_ {A = ℕ} 0 1 = cc in omega arith
-never-plain d i (x ∷ a) (y ∷ b) h = by (sumOf d x y) h (never-plain d (suc i) a b)
+never-plain d i (x ∷ a) (y ∷ b) h = by (onPatterns Sum d x y) h (never-plain d (suc i) a b)
   where
     by : (p : Pattern) {rest : SliceAnswer} {why : Refusal} → orElse p i rest ≡ answer.Refused why → (rest ≡ answer.Refused why → ⊥) → ⊥
     by (pattern.Written n) e k = k e

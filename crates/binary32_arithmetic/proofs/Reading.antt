@@ -5,20 +5,21 @@ use Prim.Native.Nat.{ℕ}
 use native.Mathlib.Omega.{arith}
 use Rattle.theory.specs.Tests.{_and_, unless}
 use Rattle.theory.proofs.Tests.{and-left, and-right, and-made, unless-passed, unless-failed}
+use Rattle.theory.specs.Round.{Direction}
 use Rattle.format.specs.declared.Refusal.{Refusal}
 use Rattle.format.specs.declared.Refusal.the-variants.{NotFinite}
 use Rattle.format.specs.Published.{binary32}
 use Rattle.number.specs.declared.Number.{Number}
-use Rattle.number.specs.declared.Answer.{Answer}
 use Rattle.number.specs.declared.Answer.the-variants as answer
 use Rattle.number.specs.Numbers.{member}
 use Rattle.binary32.specs.declared.Pattern.{Pattern}
 use Rattle.binary32.specs.declared.Pattern.the-variants as pattern
 use Rattle.binary32.specs.Patterns.{finite, numberRead, patternRead, answerWritten}
 use Rattle.binary32.proofs.RoundTrips.{reads, read-made, read-member}
+use Rattle.binary32_arithmetic.specs.declared.Operation.{Operation}
 use Rattle.binary32_arithmetic.specs.declared.Pair.{Pair}
 use Rattle.binary32_arithmetic.specs.declared.Operands.the-variants.{Both, Refused}
-use Rattle.binary32_arithmetic.specs.Calls.{operandsOf, onPatterns}
+use Rattle.binary32_arithmetic.specs.Calls.{operandsOf, roundedBy, onPatterns}
 
 -- ---- one pattern
 pub read-refused : (n : ℕ) {why : Refusal} → patternRead n ≡ answer.Refused why → finite n ≡ false
@@ -57,7 +58,7 @@ both-read a b h k =
 pub record Given (a b : ℕ) (p : Pair) : Type 0 where
   pub first : patternRead a ≡ answer.Value (p .first)
   pub second : patternRead b ≡ answer.Value (p .second)
-  pub call : (operation : Number → Number → Answer) → answerWritten (operation (p .first) (p .second)) ≡ onPatterns operation a b
+  pub call : (operation : Operation) (d : Direction) → answerWritten (roundedBy operation d (p .first) (p .second)) ≡ onPatterns operation d a b
 
 pub given : (a b : ℕ) {p : Pair} → operandsOf a b ≡ Both p → Given a b p
 unfolding operandsOf onPatterns
@@ -71,15 +72,15 @@ given a b {p} h = by (finite a and finite b) refl
         record {
           first = read-made a (and-left _ _ e) ∙ ap answer.Value x;
           second = read-made b (and-right _ _ e) ∙ ap answer.Value y;
-          call = λ operation. sym (unless-passed _ _ e ∙ ap answerWritten (ap₂ operation x y));
+          call = λ operation d. sym (unless-passed _ _ e ∙ ap answerWritten (ap₂ (roundedBy operation d) x y));
         }
     by false e = absurd (let k : Refused NotFinite ≡ Both p = sym (unless-failed _ _ e) ∙ h in let z : _≡_ {A = ℕ} 0 1 = cc in omega arith)
 
-pub refused : (operation : Number → Number → Answer) (a b : ℕ) {why : Refusal} → operandsOf a b ≡ Refused why → pattern.Refused why ≡ onPatterns operation a b
+pub refused : (operation : Operation) (d : Direction) (a b : ℕ) {why : Refusal} → operandsOf a b ≡ Refused why → pattern.Refused why ≡ onPatterns operation d a b
 unfolding operandsOf onPatterns
-refused operation a b {why} h = by (finite a and finite b) refl
+refused operation d a b {why} h = by (finite a and finite b) refl
   where
-    by : (t : Bool) → finite a and finite b ≡ t → pattern.Refused why ≡ unless (finite a and finite b) (pattern.Refused NotFinite) (answerWritten (operation (numberRead a) (numberRead b)))
+    by : (t : Bool) → finite a and finite b ≡ t → pattern.Refused why ≡ unless (finite a and finite b) (pattern.Refused NotFinite) (answerWritten (roundedBy operation d (numberRead a) (numberRead b)))
     by true e =
         absurd (let k : Both (record { first = numberRead a; second = numberRead b }) ≡ Refused why = sym (unless-passed _ _ e) ∙ h in let z : _≡_ {A = ℕ} 0 1 = cc in omega arith)
     by false e =

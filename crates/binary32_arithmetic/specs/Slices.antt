@@ -11,9 +11,10 @@ use Rattle.format.specs.declared.Refusal.the-variants.{NoSuchDirection, Lengths
 use Rattle.format.specs.Directions.{isDirection, direction}
 use Rattle.binary32.specs.declared.Pattern.{Pattern}
 use Rattle.binary32.specs.declared.Pattern.the-variants as pattern
+use Rattle.binary32_arithmetic.specs.declared.Operation.the-variants.{Sum}
 use Rattle.binary32_arithmetic.specs.declared.SliceAnswer.{SliceAnswer}
 use Rattle.binary32_arithmetic.specs.declared.SliceAnswer.the-variants as answer
-use Rattle.binary32_arithmetic.specs.Calls.{sumOf}
+use Rattle.binary32_arithmetic.specs.Calls.{onPatterns}
 
 -- an entry by itself: passed or refused
 abbrev pub verdictOf : Pattern → Verdict
@@ -29,7 +30,7 @@ orElse (pattern.Refused why) index rest = answer.RefusedAt why index
 unfoldable pub firstRefused : Direction → (index : ℕ) (a b : List ℕ) → SliceAnswer
 firstRefused d index [] b = answer.Done
 firstRefused d index (x ∷ a) [] = answer.Done
-firstRefused d index (x ∷ a) (y ∷ b) = orElse (sumOf d x y) index (firstRefused d (suc index) a b)
+firstRefused d index (x ∷ a) (y ∷ b) = orElse (onPatterns Sum d x y) index (firstRefused d (suc index) a b)
 
 -- the pattern that is written, where there is one
 abbrev pub written : Pattern → ℕ
@@ -40,7 +41,7 @@ written (pattern.Refused why) = 0
 unfoldable pub sums : Direction → (a b : List ℕ) → List ℕ
 sums d [] b = []
 sums d (x ∷ a) [] = []
-sums d (x ∷ a) (y ∷ b) = written (sumOf d x y) ∷ sums d a b
+sums d (x ∷ a) (y ∷ b) = written (onPatterns Sum d x y) ∷ sums d a b
 
 -- the answer of sum_slices: the lengths (11), the direction (2), then 9 and 5 entry by entry
 unfoldable pub slicesAnswer : (d : ℕ) (a b out : List ℕ) → SliceAnswer

@@ -18,6 +18,14 @@ pub enum Operands {
     Refused(Refusal),
 }
 
+// The four operations.
+pub enum Operation {
+    Sum,
+    Difference,
+    Product,
+    Quotient,
+}
+
 // What a sum of slices answers: refusals 5 and 9 come with the index of the first refused entry.
 pub enum SliceAnswer {
     Done,

@@ -1,5 +1,6 @@
 // The four operations on patterns, in a direction that is known and as public calls.
 use crate::Operands;
+use crate::Operation;
 use crate::entry::read_two;
 use crate::entry::write_answer;
 use arithmetic::product::multiply;
@@ -12,18 +13,38 @@ use format::Direction;
 use format::Refusal;
 use format::directions::direction_of;
 use format::directions::is_direction;
+use number::Answer;
+use number::Number;
 ghost use mathlib.Core.Path.{_≡_};
+ghost use mathlib.Core.Bool.{true};
 ghost use Rattle.format.specs.Directions.{sense};
-ghost use Rattle.binary32_arithmetic.specs.Calls.{sumOf, differenceOf, productOf, quotientOf, patternSum, patternDifference, patternProduct, patternQuotient};
+ghost use Rattle.format.specs.Published.{binary32};
+ghost use Rattle.number.specs.Numbers.{member};
+ghost use Rattle.binary32_arithmetic.specs.Calls.{roundedBy, onPatterns, patternCall};
+ghost use Rattle.binary32_arithmetic.specs.declared.Operation.the-variants.{Sum, Difference, Product, Quotient};
 
-// a + b. Refuses 9, 5.
-pub fn add_patterns(direction: Direction, a: u32, b: u32) -> Pattern
-    ensures { λ r. ⌜ r ≡ sumOf (sense direction) a b ⌝ }
+// The operation on two numbers of format 2. Refuses 4, 5.
+fn operate(operation: Operation, direction: Direction, a: Number, b: Number) -> Answer
+    requires { ⌜ (member binary32 a ≡ true) × (member binary32 b ≡ true) ⌝ }
+    ensures { λ r. ⌜ r ≡ roundedBy operation (sense direction) a b ⌝ }
+{
+    let prepared = prepared_binary32();
+    match operation {
+        Operation::Sum => add(prepared, direction, a, b),
+        Operation::Difference => subtract(prepared, direction, a, b),
+        Operation::Product => multiply(prepared, direction, a, b),
+        Operation::Quotient => divide(prepared, direction, a, b),
+    }
+}
+
+// The operation on two patterns. Refuses 9, 4, 5.
+pub fn operate_on_patterns(operation: Operation, direction: Direction, a: u32, b: u32) -> Pattern
+    ensures { λ r. ⌜ r ≡ onPatterns operation (sense direction) a b ⌝ }
 {
     match read_two(a, b) {
         Operands::Refused(why) => Pattern::Refused(why),
-        Operands::Both(pair) => write_answer(add(
-            prepared_binary32(),
+        Operands::Both(pair) => write_answer(operate(
+            operation,
             direction,
             pair.first,
             pair.second,
@@ -31,87 +52,40 @@ pub fn add_patterns(direction: Direction, a: u32, b: u32) -> Pattern
     }
 }
 
-// a - b. Refuses 9, 5.
-pub fn subtract_patterns(direction: Direction, a: u32, b: u32) -> Pattern
-    ensures { λ r. ⌜ r ≡ differenceOf (sense direction) a b ⌝ }
+// The same in a direction that is examined. Refuses 2, 9, 4, 5.
+pub fn call_on_patterns(operation: Operation, direction: u32, a: u32, b: u32) -> Pattern
+    ensures { λ r. ⌜ r ≡ patternCall operation direction a b ⌝ }
 {
-    match read_two(a, b) {
-        Operands::Refused(why) => Pattern::Refused(why),
-        Operands::Both(pair) => write_answer(subtract(
-            prepared_binary32(),
-            direction,
-            pair.first,
-            pair.second,
-        )),
+    if !is_direction(direction) {
+        return Pattern::Refused(Refusal::NoSuchDirection);
     }
-}
-
-// a * b. Refuses 9, 5.
-pub fn multiply_patterns(direction: Direction, a: u32, b: u32) -> Pattern
-    ensures { λ r. ⌜ r ≡ productOf (sense direction) a b ⌝ }
-{
-    match read_two(a, b) {
-        Operands::Refused(why) => Pattern::Refused(why),
-        Operands::Both(pair) => write_answer(multiply(
-            prepared_binary32(),
-            direction,
-            pair.first,
-            pair.second,
-        )),
-    }
-}
-
-// a / b. Refuses 9, 4, 5.
-pub fn divide_patterns(direction: Direction, a: u32, b: u32) -> Pattern
-    ensures { λ r. ⌜ r ≡ quotientOf (sense direction) a b ⌝ }
-{
-    match read_two(a, b) {
-        Operands::Refused(why) => Pattern::Refused(why),
-        Operands::Both(pair) => write_answer(divide(
-            prepared_binary32(),
-            direction,
-            pair.first,
-            pair.second,
-        )),
-    }
+    operate_on_patterns(operation, direction_of(direction), a, b)
 }
 
 // a + b. Refuses 2, 9, 5.
 pub fn pattern_sum(direction: u32, a: u32, b: u32) -> Pattern
-    ensures { λ r. ⌜ r ≡ patternSum direction a b ⌝ }
+    ensures { λ r. ⌜ r ≡ patternCall Sum direction a b ⌝ }
 {
-    if !is_direction(direction) {
-        return Pattern::Refused(Refusal::NoSuchDirection);
-    }
-    add_patterns(direction_of(direction), a, b)
+    call_on_patterns(Operation::Sum, direction, a, b)
 }
 
 // a - b. Refuses 2, 9, 5.
 pub fn pattern_difference(direction: u32, a: u32, b: u32) -> Pattern
-    ensures { λ r. ⌜ r ≡ patternDifference direction a b ⌝ }
+    ensures { λ r. ⌜ r ≡ patternCall Difference direction a b ⌝ }
 {
-    if !is_direction(direction) {
-        return Pattern::Refused(Refusal::NoSuchDirection);
-    }
-    subtract_patterns(direction_of(direction), a, b)
+    call_on_patterns(Operation::Difference, direction, a, b)
 }
 
 // a * b. Refuses 2, 9, 5.
 pub fn pattern_product(direction: u32, a: u32, b: u32) -> Pattern
-    ensures { λ r. ⌜ r ≡ patternProduct direction a b ⌝ }
+    ensures { λ r. ⌜ r ≡ patternCall Product direction a b ⌝ }
 {
-    if !is_direction(direction) {
-        return Pattern::Refused(Refusal::NoSuchDirection);
-    }
-    multiply_patterns(direction_of(direction), a, b)
+    call_on_patterns(Operation::Product, direction, a, b)
 }
 
 // a / b. Refuses 2, 9, 4, 5.
 pub fn pattern_quotient(direction: u32, a: u32, b: u32) -> Pattern
-    ensures { λ r. ⌜ r ≡ patternQuotient direction a b ⌝ }
+    ensures { λ r. ⌜ r ≡ patternCall Quotient direction a b ⌝ }
 {
-    if !is_direction(direction) {
-        return Pattern::Refused(Refusal::NoSuchDirection);
-    }
-    divide_patterns(direction_of(direction), a, b)
+    call_on_patterns(Operation::Quotient, direction, a, b)
 }

@@ -1,6 +1,7 @@
 // Two slices of patterns summed entry by entry into a third. The first pass looks for a refused entry, the second writes.
+use crate::Operation;
 use crate::SliceAnswer;
-use crate::operations::add_patterns;
+use crate::operations::operate_on_patterns;
 use binary32::Pattern;
 use format::Direction;
 use format::Refusal;
@@ -14,7 +15,8 @@ ghost use lib.ListN.{length};
 ghost use Rattle.theory.specs.Tests.{_and_};
 ghost use Rattle.format.specs.Directions as directions;
 ghost use Rattle.format.specs.Directions.{sense};
-ghost use Rattle.binary32_arithmetic.specs.Calls.{sumOf};
+ghost use Rattle.binary32_arithmetic.specs.Calls.{onPatterns};
+ghost use Rattle.binary32_arithmetic.specs.declared.Operation.the-variants.{Sum};
 ghost use Rattle.binary32_arithmetic.specs.Slices.{verdictOf, written, firstRefused, sums, slicesAnswer, slicesWritten};
 
 // Is the pattern's magnitude at most half the greatest number? Its exponent field is below 254.
@@ -35,12 +37,12 @@ fn are_halves(a: u32, b: u32) -> bool
 
 // Is an entry refused? Two magnitudes of at most half the greatest number are not.
 fn examine(direction: Direction, a: u32, b: u32) -> Verdict
-    ensures { λ r. ⌜ r ≡ verdictOf (sumOf (sense direction) a b) ⌝ }
+    ensures { λ r. ⌜ r ≡ verdictOf (onPatterns Sum (sense direction) a b) ⌝ }
 {
     if are_halves(a, b) {
         return Verdict::Passed;
     }
-    match add_patterns(direction, a, b) {
+    match operate_on_patterns(Operation::Sum, direction, a, b) {
         Pattern::Written(_) => Verdict::Passed,
         Pattern::Refused(why) => Verdict::Refused(why),
     }
@@ -78,7 +80,12 @@ fn write_sums(direction: Direction, a: &[u32], b: &[u32], out: &mut [u32])
 {
     let mut done = 0;
     while done < a.len() {
-        out[done] = written_or_zero(add_patterns(direction, a[done], b[done]));
+        out[done] = written_or_zero(operate_on_patterns(
+            Operation::Sum,
+            direction,
+            a[done],
+            b[done],
+        ));
         done += 1;
     }
 }

@@ -16,7 +16,8 @@ use number::Number;
 ghost use mathlib.Core.Path.{_≡_};
 ghost use Rattle.format.specs.Directions as directions;
 ghost use Rattle.binary32.specs.Patterns.{patternRead, patternWritten};
-ghost use Rattle.binary32_arithmetic.specs.Calls.{patternSum, patternDifference, patternProduct, patternQuotient};
+ghost use Rattle.binary32_arithmetic.specs.Calls.{patternCall};
+ghost use Rattle.binary32_arithmetic.specs.declared.Operation.the-variants.{Sum, Difference, Product, Quotient};
 ghost use Rattle.binary32_arithmetic.specs.Slices.{sums, slicesAnswer, slicesWritten};
 ghost use Rattle.c_api.specs.Answers.{numberOut, patternOut, slicesOut};
 
@@ -39,7 +40,7 @@ pub extern "C" fn zurkeb_write_pattern(x: Number) -> u64
 // a + b. Refuses 2, 9, 5.
 #[no_mangle]
 pub extern "C" fn zurkeb_pattern_sum(a: u32, b: u32, direction: u32) -> u64
-    ensures { λ r. ⌜ r ≡ patternOut (patternSum direction a b) ⌝ }
+    ensures { λ r. ⌜ r ≡ patternOut (patternCall Sum direction a b) ⌝ }
 {
     pattern_out(pattern_sum(direction, a, b))
 }
@@ -47,7 +48,7 @@ pub extern "C" fn zurkeb_pattern_sum(a: u32, b: u32, direction: u32) -> u64
 // a - b. Refuses 2, 9, 5.
 #[no_mangle]
 pub extern "C" fn zurkeb_pattern_difference(a: u32, b: u32, direction: u32) -> u64
-    ensures { λ r. ⌜ r ≡ patternOut (patternDifference direction a b) ⌝ }
+    ensures { λ r. ⌜ r ≡ patternOut (patternCall Difference direction a b) ⌝ }
 {
     pattern_out(pattern_difference(direction, a, b))
 }
@@ -55,7 +56,7 @@ pub extern "C" fn zurkeb_pattern_difference(a: u32, b: u32, direction: u32) -> u
 // a * b. Refuses 2, 9, 5.
 #[no_mangle]
 pub extern "C" fn zurkeb_pattern_product(a: u32, b: u32, direction: u32) -> u64
-    ensures { λ r. ⌜ r ≡ patternOut (patternProduct direction a b) ⌝ }
+    ensures { λ r. ⌜ r ≡ patternOut (patternCall Product direction a b) ⌝ }
 {
     pattern_out(pattern_product(direction, a, b))
 }
@@ -63,7 +64,7 @@ pub extern "C" fn zurkeb_pattern_product(a: u32, b: u32, direction: u32) -> u64
 // a / b. Refuses 2, 9, 4, 5.
 #[no_mangle]
 pub extern "C" fn zurkeb_pattern_quotient(a: u32, b: u32, direction: u32) -> u64
-    ensures { λ r. ⌜ r ≡ patternOut (patternQuotient direction a b) ⌝ }
+    ensures { λ r. ⌜ r ≡ patternOut (patternCall Quotient direction a b) ⌝ }
 {
     pattern_out(pattern_quotient(direction, a, b))
 }

@@ -16,8 +16,8 @@ returns c =
     let h = sym (c .before .are-halves .ensures) ∙ c .if1 .taken in
     halves-pass _ _ _ (ltb-true _ _ (and-left _ _ h)) (ltb-true _ _ (and-right _ _ h))
 
-add-patterns-requires : tie.Need-add-patterns-requires
-add-patterns-requires c κs = search needs
+operate-on-patterns-requires : tie.Need-operate-on-patterns-requires
+operate-on-patterns-requires c κs = search needs
 
 enum-told : tie.Need-enum-told
 enum-told c = search needs
@@ -26,12 +26,12 @@ enum-known-why : tie.Need-enum-known-why
 enum-known-why c = search needs
 
 returns-2 : tie.Need-returns-2
-returns-2 c = sym (ap verdictOf (sym (c .before .before .add-patterns .ensures) ∙ c .enum-told .given .1))
+returns-2 c = sym (ap verdictOf (sym (c .before .before .operate-on-patterns .ensures) ∙ c .enum-told .given .1))
 
 returns-3 : tie.Need-returns-3
-returns-3 c = sym (ap verdictOf (sym (c .before .before .before .add-patterns .ensures) ∙ c .before .why .given .1))
+returns-3 c = sym (ap verdictOf (sym (c .before .before .before .operate-on-patterns .ensures) ∙ c .before .why .given .1))
 
 pub examine-spec : {M : Type 1} → statement M
 examine-spec =
     tie.close
-    (tie.spec are-halves-requires returns add-patterns-requires enum-told enum-known-why returns-2 returns-3)
+    (tie.spec are-halves-requires returns operate-on-patterns-requires enum-told enum-known-why returns-2 returns-3)

@@ -7,7 +7,8 @@ use lib.ListN.{length, drop, getD}
 use Rattle.format.specs.Directions.{sense}
 use Rattle.binary32.specs.declared.Pattern.{Pattern}
 use Rattle.binary32_arithmetic.specs.declared.SliceAnswer.{SliceAnswer}
-use Rattle.binary32_arithmetic.specs.Calls.{sumOf}
+use Rattle.binary32_arithmetic.specs.declared.Operation.the-variants.{Sum}
+use Rattle.binary32_arithmetic.specs.Calls.{onPatterns}
 use Rattle.binary32_arithmetic.specs.Slices.{orElse, firstRefused}
 use Rattle.binary32_arithmetic.proofs.Passes.{passed-entry, refused-entry, found-step, found-end}
 use Rattle.binary32_arithmetic.proofs.slices.first_refused.Statement.{statement}
@@ -30,7 +31,7 @@ module _ (j : tie.After-examine Inv-loop μ-loop) where
   rest = firstRefused (sense (start .args .direction)) (i + 1) (drop (i + 1) (start .args .a .now)) (drop (i + 1) (start .args .b .now))
 
   abbrev sum : Pattern
-  sum = sumOf (sense (start .args .direction)) (getD (start .args .a .now) i 0) (getD (start .args .b .now) i 0)
+  sum = onPatterns Sum (sense (start .args .direction)) (getD (start .args .a .now) i 0) (getD (start .args .b .now) i 0)
 
   -- what the whole answers, by this entry's sum
   here : firstRefused (sense (start .args .direction)) 0 (start .args .a .now) (start .args .b .now) ≡ orElse sum i rest

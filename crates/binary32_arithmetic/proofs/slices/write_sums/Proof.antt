@@ -7,7 +7,8 @@ use lib.Seq.{take-all}
 use Prim.Native.Nat.{_≤_, _-_, _+_}
 use lib.ListN.{length, take, drop, getD}
 use Rattle.format.specs.Directions.{sense}
-use Rattle.binary32_arithmetic.specs.Calls.{sumOf}
+use Rattle.binary32_arithmetic.specs.declared.Operation.the-variants.{Sum}
+use Rattle.binary32_arithmetic.specs.Calls.{onPatterns}
 use Rattle.binary32_arithmetic.specs.Slices.{written, sums}
 use Rattle.binary32_arithmetic.proofs.Passes.{written-step, sums-end}
 use Rattle.binary32_arithmetic.proofs.slices.write_sums.Statement.{statement}
@@ -23,20 +24,20 @@ abbrev μ-loop : tie.MeasureT-loop
 loop-holds : tie.Need-loop-holds Inv-loop μ-loop
 loop-holds c = search needs
 
-mul-add-patterns : tie.Need-mul-add-patterns Inv-loop μ-loop
-mul-add-patterns c = search needs
+mul-operate-on-patterns : tie.Need-mul-operate-on-patterns Inv-loop μ-loop
+mul-operate-on-patterns c = search needs
 
-shared-slice-read-add-patterns : tie.Need-shared-slice-read-add-patterns Inv-loop μ-loop
-shared-slice-read-add-patterns c = search needs
+shared-slice-read-operate-on-patterns : tie.Need-shared-slice-read-operate-on-patterns Inv-loop μ-loop
+shared-slice-read-operate-on-patterns c = search needs
 
-mul-add-patterns-2 : tie.Need-mul-add-patterns-2 Inv-loop μ-loop
-mul-add-patterns-2 c = search needs
+mul-operate-on-patterns-2 : tie.Need-mul-operate-on-patterns-2 Inv-loop μ-loop
+mul-operate-on-patterns-2 c = search needs
 
-shared-slice-read-add-patterns-2 : tie.Need-shared-slice-read-add-patterns-2 Inv-loop μ-loop
-shared-slice-read-add-patterns-2 c = search needs
+shared-slice-read-operate-on-patterns-2 : tie.Need-shared-slice-read-operate-on-patterns-2 Inv-loop μ-loop
+shared-slice-read-operate-on-patterns-2 c = search needs
 
-add-patterns-requires : tie.Need-add-patterns-requires Inv-loop μ-loop
-add-patterns-requires c κs = search needs
+operate-on-patterns-requires : tie.Need-operate-on-patterns-requires Inv-loop μ-loop
+operate-on-patterns-requires c κs = search needs
 
 written-or-zero-requires : tie.Need-written-or-zero-requires Inv-loop μ-loop
 written-or-zero-requires c κs = search needs
@@ -57,8 +58,8 @@ loop-again : tie.Need-loop-again Inv-loop μ-loop
 loop-again c =
     let j = c .before .before .before .before .before in
     let st = j .before .before .before .before in
-    let v : c .written-or-zero .result ≡ written (sumOf (sense (st .args .direction)) (getD (st .args .a .now) (j .loop .done) 0) (getD (st .args .b .now) (j .loop .done) 0)) =
-    c .written-or-zero .ensures ∙ ap written (c .before .add-patterns .ensures) in (
+    let v : c .written-or-zero .result ≡ written (onPatterns Sum (sense (st .args .direction)) (getD (st .args .a .now) (j .loop .done) 0) (getD (st .args .b .now) (j .loop .done) 0)) =
+    c .written-or-zero .ensures ∙ ap written (c .before .operate-on-patterns .ensures) in (
       search needs,
       search needs,
       written-step (sense (st .args .direction)) (j .loop .done) (c .written-or-zero .result) (st .args .a .now) (st .args .b .now) (j .loop .out) (omega arith) (st .pre .0) (omega arith) v
@@ -83,11 +84,11 @@ write-sums-spec =
     Inv-loop
     μ-loop
     loop-holds
-    mul-add-patterns
-    shared-slice-read-add-patterns
-    mul-add-patterns-2
-    shared-slice-read-add-patterns-2
-    add-patterns-requires
+    mul-operate-on-patterns
+    shared-slice-read-operate-on-patterns
+    mul-operate-on-patterns-2
+    shared-slice-read-operate-on-patterns-2
+    operate-on-patterns-requires
     written-or-zero-requires
     mul-out
     slice-write-out
