@@ -29,14 +29,22 @@ pub fn verdict_out(verdict: Verdict) -> u32
     }
 }
 
+// The number goes field by field: copied whole it would be read back in other pieces than it was stored in, which costs time.
 pub fn number_out(answer: Answer) -> NumberAnswer
     ensures { λ r. ⌜ r ≡ numberOut answer ⌝ }
 {
     match answer {
-        Answer::Value(x) => NumberAnswer {
-            refusal: 0,
-            number: x,
-        },
+        Answer::Value(x) => {
+            let number = Number {
+                negative: x.negative,
+                significand: x.significand,
+                exponent: x.exponent,
+            };
+            NumberAnswer {
+                refusal: 0,
+                number: number,
+            }
+        }
         Answer::Refused(why) => {
             let none = Number {
                 negative: false,

@@ -10,6 +10,7 @@ use native.Mathlib.Nat.{pow-le-pow-left, pow-le-pow-right, not-suc-le-zero, le-t
 use lib.Dec.{T, leb, ltb, eqb, leb→le, ltb→lt, eqb→eq}
 use lib.ListN.{getD, drop}
 use borrow.Author.Tests.{le-leb, lt-leb, leb-true, leb-false}
+use Rattle.powers.specs.Limits.{limits, limit}
 
 abbrev both : Bool → Bool → Bool
 both true b = b
@@ -46,12 +47,15 @@ row-entry k b zero i rest h = absurd (not-suc-le-zero h)
 row-entry k b (suc n) zero rest h = ap (λ (x : ℕ). x ^ k) (omega arith)
 row-entry k b (suc n) (suc i) rest h = row-entry k (suc b) n i rest (omega arith) ∙ ap (λ (x : ℕ). x ^ k) (omega arith)
 
--- ---- the limits: the greatest base up to 256 whose k-th power is at most 2 ^ 31
-abbrev limits : List ℕ
-limits = 256 ∷ 256 ∷ 256 ∷ 256 ∷ 215 ∷ 73 ∷ 35 ∷ 21 ∷ 14 ∷ 10 ∷ 8 ∷ 7 ∷ 5 ∷ 5 ∷ 4 ∷ 4 ∷ 3 ∷ 3 ∷ 3 ∷ 3 ∷ 2 ∷ 2 ∷ 2 ∷ 2 ∷ 2 ∷ 2 ∷ 2 ∷ 2 ∷ 2 ∷ 2 ∷ 2 ∷ 2 ∷ []
+-- ---- the limits
+-- the limit is r from lo on, for n exponents
+abbrev sameTest : ℕ → ℕ → ℕ → Bool
+sameTest r lo i = eqb (limit (i + lo)) r
 
-abbrev pub limit : ℕ → ℕ
-limit k = getD limits k 0
+pub limit-from : (r lo n : ℕ) → T (below (sameTest r lo) n) → (k : ℕ) → lo ≤ k → k < n + lo → r ≡ limit k
+limit-from r lo n t k l h =
+    let same : k - lo + lo ≡ k = omega arith in
+    sym (subst (λ (m : ℕ). limit m ≡ r) same (eqb→eq _ _ (at-below (sameTest r lo) n t (k - lo) (omega arith))))
 
 lowTest : ℕ → Bool
 lowTest k = leb (limit k ^ k) (2 ^ 31)

@@ -9,49 +9,37 @@ mod squares;
 ghost use mathlib.Core.Path.{_≡_};
 ghost use Prim.Native.Nat.{_≤_, _^_};
 ghost use lib.Dec.{leb};
+ghost use Rattle.powers.specs.Limits.{limit};
 
-// The greatest base up to 256 whose k-th power is at most 2^31.
-const LIMITS: [u32; 32] = [
-    256,
-    256,
-    256,
-    256,
-    215,
-    73,
-    35,
-    21,
-    14,
-    10,
-    8,
-    7,
-    5,
-    5,
-    4,
-    4,
-    3,
-    3,
-    3,
-    3,
-    2,
-    2,
-    2,
-    2,
-    2,
-    2,
-    2,
-    2,
-    2,
-    2,
-    2,
-    2,
-];
+// The greatest base up to 256 whose k-th power is at most 2^31. A `match` stands in the code itself; an array would be built on
+// the stack at each call.
+fn limit(k: u32) -> u32
+    requires { ⌜ k ≤ 31 ⌝ }
+    ensures { λ r. ⌜ r ≡ limit k ⌝ }
+{
+    match k {
+        0..=3 => 256,
+        4 => 215,
+        5 => 73,
+        6 => 35,
+        7 => 21,
+        8 => 14,
+        9 => 10,
+        10 => 8,
+        11 => 7,
+        12..=13 => 5,
+        14..=15 => 4,
+        16..=19 => 3,
+        _ => 2,
+    }
+}
 
 // Whether base^k is at most 2^31.
 pub fn fits(base: u32, k: u32) -> bool
     requires { ⌜ (base ≤ 256) × (k ≤ 31) ⌝ }
     ensures { λ r. ⌜ r ≡ leb (base ^ k) (2 ^ 31) ⌝ }
 {
-    base <= LIMITS[k as usize]
+    base <= limit(k)
 }
 
 // base^k. Only the table of that exponent is built: the cost of a read grows with the length of its array.

@@ -49,6 +49,9 @@ module _ {s : Scale} (h : Scaled s) where
   pub full-top : s .top ≡ s .base * s .full
   full-top = h .top-power ∙ pow-pred (s .base) (h .digits-least) ∙ ap (λ (n : ℕ). s .base * n) (sym (h .full-power))
 
+  pub full-most : s .full ≤ s .top
+  full-most = omega (arith, full-top, mul-le-mul-right (s .full) (h .base-least))
+
   pub unit-top : {unit shift : ℕ} → Unit s unit shift → unit * s .top ≡ s .base ^ (s .digits + shift)
   unit-top {unit} {shift} u = rw (u .is, h .top-power, pow-add (s .base) (s .digits) shift) (omega arith)
 

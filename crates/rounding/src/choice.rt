@@ -4,42 +4,43 @@ use crate::Location;
 use crate::Rounded;
 use format::Direction;
 use format::Scale;
+use format::Significand;
 ghost use mathlib.Core.Path.{_≡_};
 ghost use Prim.Native.Nat.{ℕ, _<_, _≤_, _^_};
-ghost use Rattle.theory.specs.Round.{chosen, takes-upper};
+ghost use Rattle.theory.specs.Round.{takes-upper};
 ghost use Rattle.format.specs.Directions.{sense};
 ghost use Rattle.format.specs.Formats.{Scaled};
-ghost use Rattle.rounding.specs.Location.{located, spot};
+ghost use Rattle.rounding.specs.Location.{located, ranked, spot};
 ghost use Rattle.rounding.specs.Cut.{cutOf, rounded};
 
-// The location of a remainder `rest` of `divisor`.
+// The location of a remainder `rest` of `divisor`. Values are chosen, not ways: a branch on a rest is one that no processor foresees.
 pub fn locate(rest: u64, divisor: u64) -> Location
-    requires { ⌜ rest < 2 ^ 63 ⌝ }
+    requires { ⌜ (rest < 2 ^ 63) × (1 ≤ divisor) ⌝ }
     ensures { λ r. ⌜ r ≡ located rest divisor ⌝ }
 {
-    if rest == 0 {
-        return Location::Exact;
-    }
     let twice = 2 * rest;
-    if twice < divisor {
-        return Location::Below;
-    }
-    if twice == divisor {
-        return Location::Half;
-    }
-    Location::Above
+    let lower = if rest == 0 {
+        Location::Exact
+    } else {
+        Location::Below
+    };
+    let upper = if twice == divisor {
+        Location::Half
+    } else {
+        Location::Above
+    };
+    if twice < divisor { lower } else { upper }
 }
 
-// What a direction takes where something is cut off, given what the two nearest ones take.
-fn choose(direction: Direction, negative: bool, even: bool, away: bool) -> bool
-    ensures { λ r. ⌜ r ≡ chosen (sense direction) negative even away ⌝ }
+// The locations in their order, from 0 to 3.
+fn rank(location: Location) -> u32
+    ensures { λ r. ⌜ r ≡ ranked location ⌝ }
 {
-    match direction {
-        Direction::NearestEven => even,
-        Direction::NearestAway => away,
-        Direction::TowardZero => false,
-        Direction::Upward => !negative,
-        Direction::Downward => negative,
+    match location {
+        Location::Exact => 0,
+        Location::Below => 1,
+        Location::Half => 2,
+        Location::Above => 3,
     }
 }
 
@@ -47,11 +48,13 @@ fn choose(direction: Direction, negative: bool, even: bool, away: bool) -> bool
 fn takes_next(direction: Direction, negative: bool, odd: bool, location: Location) -> bool
     ensures { λ r. ⌜ r ≡ takes-upper (sense direction) negative odd (spot location) ⌝ }
 {
-    match location {
-        Location::Exact => false,
-        Location::Below => choose(direction, negative, false, false),
-        Location::Half => choose(direction, negative, odd, true),
-        Location::Above => choose(direction, negative, true, true),
+    let at = rank(location);
+    match direction {
+        Direction::NearestEven => (at == 3) | ((at == 2) & odd),
+        Direction::NearestAway => 2 <= at,
+        Direction::TowardZero => false,
+        Direction::Upward => (at != 0) & !negative,
+        Direction::Downward => (at != 0) & negative,
     }
 }
 
@@ -63,10 +66,9 @@ pub fn finish(scale: Scale, direction: Direction, negative: bool, cut: Cut) -> R
 {
     let top = scale.top;
     let location = cut.location;
-    let mut steps = cut.steps;
-    if takes_next(direction, negative, steps % 2 == 1, location) {
-        steps = steps + 1;
-    }
+    let lower = cut.steps;
+    let taken = takes_next(direction, negative, lower % 2 == 1, location);
+    let steps = lower + taken as Significand;
     if steps == top {
         let next = cut.place + 1;
         Rounded {

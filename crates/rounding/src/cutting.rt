@@ -58,23 +58,29 @@ fn cut_small(scale: Scale, n: u64, count: u32, up: u32, down: u32) -> Cut
     divide(scale, n, power(scale, drop), 0)
 }
 
-// base ^ k, from unit = base ^ shift where k is `shift` or one more.
-fn power_near(scale: Scale, k: u32, unit: u64, shift: u32) -> u64
-    requires { ⌜ Scaled scale × (k ≤ 2 * scale .digits) × Unit scale unit shift ⌝ }
-    ensures { λ r. ⌜ r ≡ scale .base ^ k ⌝ }
+// The cut of n * base ^ up / base ^ down, where n has `digits` + `shift` digits or one more: unit = base ^ shift is at hand, or the
+// divisor next to it.
+pub fn cut_long(scale: Scale, n: u64, up: u32, down: u32, unit: u64, shift: u32) -> Cut
+    requires { ⌜ Scaled scale × Unit scale unit shift × (unit * scale .full ≤ n) × (n < unit * scale .top * scale .base) × (n < scale .top * scale .top)
+        × (up < 2 ^ 30) × (down < 2 ^ 30) ⌝ }
+    ensures { λ r. ⌜ r ≡ cutOf (scale .base) (scale .digits) (n * scale .base ^ up) (scale .base ^ down) ⌝ }
 {
-    if k == shift {
-        return unit;
+    let mut divisor = unit;
+    let mut beyond = shift;
+    if unit * scale.top as u64 <= n {
+        divisor = unit * scale.base as u64;
+        beyond = shift + 1;
     }
-    if k == shift + 1 {
-        return unit * scale.base as u64;
+    let high = up + beyond;
+    if down < high {
+        return divide(scale, n, divisor, high - down);
     }
-    power(scale, k)
+    cut_small(scale, n, scale.digits + beyond, up, down)
 }
 
-// The cut of n * base ^ up / base ^ down. `unit` and `shift` help to count the digits of n.
-pub fn cut(scale: Scale, n: u64, up: u32, down: u32, unit: u64, shift: u32) -> Cut
-    requires { ⌜ Scaled scale × (n < scale .top * scale .top) × (up < 2 ^ 30) × (down < 2 ^ 30) × Unit scale unit shift ⌝ }
+// The cut of n * base ^ up / base ^ down. The digits of n are counted.
+pub fn cut(scale: Scale, n: u64, up: u32, down: u32) -> Cut
+    requires { ⌜ Scaled scale × (n < scale .top * scale .top) × (up < 2 ^ 30) × (down < 2 ^ 30) ⌝ }
     ensures { λ r. ⌜ r ≡ cutOf (scale .base) (scale .digits) (n * scale .base ^ up) (scale .base ^ down) ⌝ }
 {
     if n == 0 {
@@ -85,7 +91,7 @@ pub fn cut(scale: Scale, n: u64, up: u32, down: u32, unit: u64, shift: u32) -> C
         };
     }
     let digits = scale.digits;
-    let count = digit_count(scale, n, unit, shift);
+    let count = digit_count(scale, n);
     let high = count + up;
     let low = digits + down;
     if high <= low {
@@ -95,7 +101,7 @@ pub fn cut(scale: Scale, n: u64, up: u32, down: u32, unit: u64, shift: u32) -> C
     if count < digits {
         extend(scale, n, digits - count, place)
     } else {
-        let divisor = power_near(scale, count - digits, unit, shift);
+        let divisor = power(scale, count - digits);
         divide(scale, n, divisor, place)
     }
 }

@@ -4,7 +4,7 @@ use format::Significand;
 ghost use mathlib.Core.Path.{_≡_};
 ghost use Prim.Native.Nat.{_*_, _<_, _≤_, _^_};
 ghost use Rattle.format.specs.Formats.{Scaled};
-ghost use Rattle.rounding.specs.Digits.{Digits, Unit};
+ghost use Rattle.rounding.specs.Digits.{Digits};
 
 // base ^ k, for k up to the digits. The table is read only where the scale does not have the power.
 fn power_within(scale: Scale, k: u32) -> Significand
@@ -35,22 +35,27 @@ pub fn power(scale: Scale, k: u32) -> u64
     scale.top as u64 * power_within(scale, k - digits) as u64
 }
 
-// The digits of `n`. `unit` = base ^ shift says where to look first: a number of at least digits + shift digits, or of at least
-// `digits` digits, needs no search from the start.
-pub fn digit_count(scale: Scale, n: u64, unit: u64, shift: u32) -> u32
-    requires { ⌜ Scaled scale × (1 ≤ n) × (n < scale .top * scale .top) × Unit scale unit shift ⌝ }
+// The digits of `n` in base 2, which are its bits.
+fn bit_count(n: u64) -> u32
+    requires { ⌜ 1 ≤ n ⌝ }
+    ensures { λ r. ⌜ Digits 2 n r ⌝ }
+{
+    64 - u64::leading_zeros(n)
+}
+
+// The digits of `n`. A number of at least `digits` digits needs no search from the start.
+pub fn digit_count(scale: Scale, n: u64) -> u32
+    requires { ⌜ Scaled scale × (1 ≤ n) × (n < scale .top * scale .top) ⌝ }
     ensures { λ r. ⌜ Digits (scale .base) n r ⌝ }
 {
     let base = scale.base as u64;
-    let full = scale.full as u64;
-    let top = scale.top as u64;
+    if base == 2 {
+        return bit_count(n);
+    }
     let mut bound: u64 = base;
     let mut count: u32 = 1;
-    if unit * full <= n {
-        bound = unit * top;
-        count = scale.digits + shift;
-    } else if full <= n {
-        bound = top;
+    if scale.full as u64 <= n {
+        bound = scale.top as u64;
         count = scale.digits;
     }
     while bound <= n {

@@ -46,6 +46,12 @@ module _ {s : Scale} (h : Scaled s) {x y : Wide} (hx : Operand s x) (hy : Operan
       let x-most : suc (x .significand) ≤ s .top = omega (arith, hx .canonical .small) in
       omega (arith, hy .canonical .small, mul-le-mul-left (x .significand) w-most, mul-le-mul-right (s .top) x-most)
 
+  pub near-below : x .significand * w + y .significand < w * s .top * s .base
+  near-below =
+      let w-some : 1 ≤ w = omega (arith, pow-pos (h .base-least) gap) in
+      let x-most : suc (x .significand) ≤ s .top = omega (arith, hx .canonical .small, h .top-power) in
+      omega (arith, hy .canonical .small, h .top-power, mul-le-mul-right w x-most, mul-le-mul-left (s .top) w-some, mul-le-mul-left (w * s .top) (h .base-least))
+
   near-scaled : sizeOf (s .base) x ≡ x .significand * w * s .base ^ y .place
   near-scaled = rw (at, pow-add, pw) (omega arith)
 

@@ -29,20 +29,19 @@ fn normalise(scale: Scale, m: Significand) -> Normal
     requires { ⌜ Scaled scale × (1 ≤ m) × (m < scale .top) ⌝ }
     ensures { λ r. ⌜ Shifted scale m (r .value) (r .shift) ⌝ }
 {
-    let shift = scale.digits - digit_count(scale, m as u64, 1, 0);
+    let shift = scale.digits - digit_count(scale, m as u64);
     Normal {
         value: m as u64 * power(scale, shift),
         shift: shift,
     }
 }
 
-// a * base ^ i divided by b.
-fn divide_shifted(scale: Scale, a: u64, b: u64, i: u32, place: u32) -> Cut
-    requires { ⌜ Scaled scale × Leading scale b × (i ≤ scale .digits) × (a * scale .base ^ i < b * scale .top) ⌝ }
-    ensures { λ r. ⌜ r ≡ dropped (a * scale .base ^ i) b place ⌝ }
+// a * unit divided by b.
+fn divide_shifted(scale: Scale, a: u64, b: u64, unit: u64, place: u32) -> Cut
+    requires { ⌜ Scaled scale × Leading scale b × (a * unit < b * scale .top) ⌝ }
+    ensures { λ r. ⌜ r ≡ dropped (a * unit) b place ⌝ }
 {
-    let n = a * power(scale, i);
-    divide(scale, n, b, place)
+    divide(scale, a * unit, b, place)
 }
 
 // Where a lies in b * base ^ e.
@@ -62,14 +61,17 @@ fn quotient_cut(scale: Scale, a: u64, b: u64, high: u32, low: u32) -> Cut
     ensures { λ r. ⌜ r ≡ cutOf (scale .base) (scale .digits) (a * scale .base ^ high) (b * scale .base ^ low) ⌝ }
 {
     let mut digits = scale.digits;
+    let mut unit = scale.top;
     if b <= a {
         digits = digits - 1;
+        unit = scale.full;
     }
     if low + digits <= high {
-        return divide_shifted(scale, a, b, digits, high - (low + digits));
+        return divide_shifted(scale, a, b, unit as u64, high - (low + digits));
     }
     if low <= high {
-        return divide_shifted(scale, a, b, high - low, 0);
+        let part = power(scale, high - low);
+        return divide_shifted(scale, a, b, part, 0);
     }
     let location = locate_under(scale, a, b, low - high);
     Cut {

@@ -9,11 +9,14 @@ use rounding::Cut;
 use rounding::Location;
 use rounding::choice::locate;
 use rounding::cutting::cut;
+use rounding::cutting::cut_long;
 use rounding::digits::power;
 ghost use mathlib.Core.Path.{_≡_};
 ghost use Prim.Native.Nat.{_+_, _*_, _<_, _≤_, _^_};
 ghost use lib.IntN.{_+ℤ_};
 ghost use Rattle.format.specs.Formats.{Scaled};
+ghost use Rattle.rounding.specs.Cut.{cutOf};
+ghost use Rattle.rounding.specs.Digits.{Unit};
 ghost use Rattle.wide.specs.Operand.{Operand, valueOf};
 ghost use Rattle.wide.specs.Sum.{Adds, SumCut, summed, belowPower};
 
@@ -23,27 +26,40 @@ struct SignedSize {
     size: u64,
 }
 
-// The sum of two signed magnitudes of one unit.
+// The sum of two signed magnitudes of one unit. The difference is at hand before the signs are compared, so that nothing branches on them.
 fn add_signed(a: bool, v: u64, b: bool, w: u64) -> SignedSize
     requires { ⌜ v + w < 2 ^ 64 ⌝ }
     ensures { λ r. ⌜ Adds a v b w (r .negative) (r .size) ⌝ }
 {
+    let mut greater = a;
+    let mut difference: u64 = 0;
+    if w <= v {
+        difference = v - w;
+    } else {
+        greater = b;
+        difference = w - v;
+    }
     if a == b {
         return SignedSize {
             negative: a,
             size: v + w,
         };
     }
-    if w <= v {
-        return SignedSize {
-            negative: a,
-            size: v - w,
-        };
-    }
     SignedSize {
-        negative: b,
-        size: w - v,
+        negative: greater,
+        size: difference,
     }
+}
+
+// The cut of n * base ^ place, where unit = base ^ gap: mostly n has `gap` digits beyond the format's, or one more.
+fn near_cut(scale: Scale, n: u64, place: u32, unit: u64, gap: u32) -> Cut
+    requires { ⌜ Scaled scale × Unit scale unit gap × (n < unit * scale .top * scale .base) × (n < scale .top * scale .top) × (place < 2 ^ 28) ⌝ }
+    ensures { λ r. ⌜ r ≡ cutOf (scale .base) (scale .digits) (n * scale .base ^ place) (scale .base ^ 0) ⌝ }
+{
+    if unit * scale.full as u64 <= n {
+        return cut_long(scale, n, place, 0, unit, gap);
+    }
+    cut(scale, n, place, 0)
 }
 
 // The sum of two numbers whose places differ by at most `digits`.
@@ -56,7 +72,7 @@ fn near_sum(scale: Scale, x: Wide, y: Wide, gap: u32) -> SignedCut
     let exact = add_signed(x.negative, high, y.negative, y.significand as u64);
     SignedCut {
         negative: exact.negative,
-        cut: cut(scale, exact.size, y.place, 0, unit, gap),
+        cut: near_cut(scale, exact.size, y.place, unit, gap),
     }
 }
 
@@ -140,11 +156,13 @@ fn sum_cut(scale: Scale, x: Wide, y: Wide) -> SignedCut
     requires { ⌜ Scaled scale × Operand scale x × Operand scale y ⌝ }
     ensures { λ r. ⌜ SumCut scale (valueOf (scale .base) x +ℤ valueOf (scale .base) y) r ⌝ }
 {
+    let mut high = x;
+    let mut low = y;
     if x.place < y.place {
-        ordered_sum(scale, y, x)
-    } else {
-        ordered_sum(scale, x, y)
+        high = y;
+        low = x;
     }
+    ordered_sum(scale, high, low)
 }
 
 // x + y, rounded.

@@ -2,6 +2,9 @@
 use borrow.Author.Needs.{needs}
 use mathlib.Core.Path.{sym, ap, _∙_}
 use Prim.Native.Nat.{ℕ}
+use mir.Syntax.{w32}
+use mir.Val.{SFits}
+use Rattle.format.proofs.Signed.{back}
 use Rattle.c_api.specs.Answers.{numberOut, noNumber}
 use Rattle.c_api.specs.declared.NumberAnswer.{NumberAnswer}
 use Rattle.c_api.proofs.answers.number_out.Statement.{statement}
@@ -19,8 +22,11 @@ enum-known-answer-2 c = search needs
 refusal-number-requires : tie.Need-refusal-number-requires
 refusal-number-requires c κs = search needs
 
+e-fits : (c : tie.After-struct-told) → SFits w32 (c .before .before .answer .given .0 .0 .exponent)
+e-fits c = search needs
+
 returns : tie.Need-returns
-returns c = sym (ap numberOut (c .before .answer .given .1))
+returns c = rw (back (e-fits c)) (sym (ap numberOut (c .before .before .answer .given .1)))
 
 returns-2 : tie.Need-returns-2
 returns-2 c = ap refused (c .refusal-number .ensures) ∙ sym (ap numberOut (c .before .before .answer2 .given .1))

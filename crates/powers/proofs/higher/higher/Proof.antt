@@ -2,7 +2,8 @@
 use borrow.Author.Needs.{needs}
 use native.Mathlib.Omega.{arith}
 use Prim.Native.Nat.{ℕ, _+_, _^_, _≤_, _<_}
-use Rattle.powers.proofs.Tables.{limit, offset, below-limit, small, higher-entry, room}
+use Rattle.powers.specs.Limits.{limit}
+use Rattle.powers.proofs.Tables.{offset, below-limit, small, higher-entry, room}
 use Rattle.powers.proofs.higher.higher.Statement.{statement}
 use Rattle.powers.proofs.higher.higher.Tie as tie
 

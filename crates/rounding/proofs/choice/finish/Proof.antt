@@ -1,50 +1,46 @@
--- `rounding::choice::finish` meets its contract: the steps after the branch are the chosen ones.
+-- `rounding::choice::finish` meets its contract: the lower steps and a step that is taken are the chosen ones.
 use borrow.Author.Needs.{needs}
-use mathlib.Core.Path.{_≡_, sym, _∙_}
-use mathlib.Core.Logic.{⊎-elim}
+use mathlib.Core.Path.{_≡_, _∙_}
+use mathlib.Core.Bool.{Bool, true, false}
 use Prim.Native.Nat.{_+_, _≤_}
-use native.Mathlib.Numerals.{add-one}
 use native.Mathlib.Omega.{arith}
+use mir.Val.{boolByte}
 use Rattle.rounding.proofs.Scales.{positional}
-use Rattle.rounding.proofs.Cuts.{chosen, chosen-taken, chosen-left, finish-below, finish-top}
+use Rattle.rounding.proofs.Cuts.{chosen, chosen-sum, finish-below, finish-top}
 use Rattle.rounding.proofs.choice.finish.Statement.{statement}
 use Rattle.rounding.proofs.choice.finish.Tie as tie
 
 takes-next-requires : tie.Need-takes-next-requires
 takes-next-requires c κs = search needs
 
+cast-steps : tie.Need-cast-steps
+cast-steps c = search needs
+
+steps-chosen : (c : tie.After-takes-next) → c .before .args .cut .steps + boolByte (c .takes-next .result) ≡ chosen (c .before .args .direction) (c .before .args .negative) (c .before .args .cut)
+steps-chosen c = chosen-sum (c .before .args .direction) (c .before .args .negative) (c .before .args .cut) (c .takes-next .ensures)
+
+byte-most : (b : Bool) → boolByte b ≤ 1
+byte-most true = omega arith
+byte-most false = omega arith
+
 add-steps : tie.Need-add-steps
-add-steps c = search needs
+add-steps c = let p = c .before .pre in omega (arith, byte-most (c .takes-next .result), p .1, p .0 .top-most)
 
 add-next : tie.Need-add-next
 add-next c = search needs
 
-abbrev start : tie.Joined1 → tie.Start
-start c = c .before .before
-
-steps-chosen : (c : tie.Joined1) → c .if1 .steps ≡ chosen (start c .args .direction) (start c .args .negative) (start c .args .cut)
-steps-chosen c =
-    let s = start c .args in
-    let told = c .before .takes-next .ensures in
-    ⊎-elim
-    (λ w. w .1 ∙ add-one (s .cut .steps) ∙ sym (chosen-taken (s .direction) (s .negative) (s .cut) (sym told ∙ w .0 .taken)))
-    (λ w. w .1 ∙ sym (chosen-left (s .direction) (s .negative) (s .cut) (sym told ∙ w .0 .left)))
-    (c .if1 .came)
-
-steps-at-most : (c : tie.Joined1) → c .if1 .steps ≤ start c .args .cut .steps + 1
-steps-at-most c = ⊎-elim (λ w. omega arith) (λ w. omega arith) (c .if1 .came)
-
 returns : tie.Need-returns
 returns c N D h e =
-    let j : tie.Joined1 = c .before .before in
-    let s = start j .pre .0 in
-    finish-top (positional s) N D h _ _ _ e (steps-chosen j) (c .before .if2 .taken ∙ s .top-power) (s .full-power)
+    let t : tie.After-takes-next = c .before .before in
+    let s = t .before .pre .0 in
+    finish-top (positional s) N D h _ _ _ e (steps-chosen t) (c .before .if1 .taken ∙ s .top-power) (s .full-power)
 
 returns-2 : tie.Need-returns-2
 returns-2 c N D h e =
-    let j : tie.Joined1 = c .before in
-    let s = start j .pre .0 in
-    finish-below (positional s) N D h _ _ _ e (steps-chosen j) (omega (arith, steps-at-most j, c .if2 .left))
+    let t : tie.After-takes-next = c .before in
+    let p = t .before .pre in
+    finish-below (positional (p .0)) N D h _ _ _ e (steps-chosen t)
+    (omega (arith, p .1, p .0 .top-power, byte-most (t .takes-next .result), c .if1 .left))
 
 pub finish-spec : {M : Type 1} → statement M
-finish-spec = tie.close (tie.spec takes-next-requires add-steps add-next returns returns-2)
+finish-spec = tie.close (tie.spec takes-next-requires cast-steps add-steps add-next returns returns-2)

@@ -47,17 +47,17 @@ extend-requires c κs =
     let a = d .before .before .args in
     (h, omega (arith, extend-small (positional h) (d .digit-count .ensures) (a .scale .digits - d .digit-count .result) (omega arith)), omega arith)
 
-power-near-requires : tie.Need-power-near-requires
-power-near-requires c κs =
+power-requires : tie.Need-power-requires
+power-requires c κs =
     let d = c .before .before in
     let p = d .before .before .pre in
-    (p .0, omega (arith, count d), p .4)
+    (p .0, omega (arith, count d))
 
 divide-requires : tie.Need-divide-requires
 divide-requires c κs =
     let d = c .before .before .before in
     let h = d .before .before .pre .0 in
-    divisor-fits h (d .digit-count .ensures) (omega (arith, count d)) (omega arith) (c .power-near .ensures)
+    divisor-fits h (d .digit-count .ensures) (omega (arith, count d)) (omega arith) (c .power .ensures)
 
 returns-3 : tie.Need-returns-3
 returns-3 c =
@@ -74,7 +74,7 @@ returns-4 c =
     let j = d .digit-count .result - a .scale .digits in
     let place = (d .digit-count .result + a .up) - (a .scale .digits + a .down) in
     c .divide .ensures
-    ∙ ap (λ (m : ℕ). dropped (a .n) m place) (c .before .power-near .ensures)
+    ∙ ap (λ (m : ℕ). dropped (a .n) m place) (c .before .power .ensures)
     ∙ sym (cut-drop (positional h) (d .digit-count .ensures) (a .up) (a .down) j place (omega arith) (omega arith))
 
 pub cut-spec : {M : Type 1} → statement M
@@ -90,7 +90,7 @@ cut-spec =
     sub-place
     sub-extend
     extend-requires
-    power-near-requires
+    power-requires
     divide-requires
     returns-3
     returns-4)

@@ -6,7 +6,7 @@ use mathlib.Core.Bool.{xor}
 use native.Mathlib.Omega.{arith}
 use Rattle.theory.proofs.Powers.{pow-pos}
 use Rattle.rounding.specs.Cut.{cutOf}
-use Rattle.rounding.proofs.Scales.{positional, digits-most, square, square-most, full-unit}
+use Rattle.rounding.proofs.Scales.{positional, digits-most, square, square-most}
 use Rattle.wide.specs.Operand.{sizeOf}
 use Rattle.wide.specs.Product.{multiplied}
 use Rattle.wide.proofs.Products.{product-small, product-value}
@@ -26,20 +26,14 @@ mul-n c =
     let p = c .before .before .pre in
     omega (arith, product-small (p .0) (p .1) (p .2), square (p .0), square-most (p .0))
 
-add-cut : tie.Need-add-cut
-add-cut c = search needs
+add-product-cut : tie.Need-add-product-cut
+add-product-cut c = search needs
 
-add-cut-2 : tie.Need-add-cut-2
-add-cut-2 c = search needs
+add-product-cut-2 : tie.Need-add-product-cut-2
+add-product-cut-2 c = search needs
 
-cast-cut : tie.Need-cast-cut
-cast-cut c = search needs
-
-sub-cut : tie.Need-sub-cut
-sub-cut c = search needs
-
-abbrev start : tie.After-cut → tie.Start
-start c = c .before .before .before .before .before .before .before
+abbrev start : tie.After-product-cut → tie.Start
+start c = c .before .before .before .before .before
 
 abbrev numerator : tie.Start → ℕ
 numerator c = sizeOf (c .args .scale .base) (c .args .x) * sizeOf (c .args .scale .base) (c .args .y) * c .args .scale .base ^ c .args .up
@@ -51,17 +45,17 @@ positive : (c : tie.Start) → 1 ≤ denominator c
 positive c = pow-pos (c .pre .0 .base-least) (c .args .down)
 
 -- the cut is that of the exact product
-exact : (c : tie.After-cut) → c .cut .result ≡ cutOf (start c .args .scale .base) (start c .args .scale .digits) (numerator (start c)) (denominator (start c))
+exact : (c : tie.After-product-cut) → c .product-cut .result ≡ cutOf (start c .args .scale .base) (start c .args .scale .digits) (numerator (start c)) (denominator (start c))
 exact c =
     let s = start c in
     let p = s .pre in
-    c .cut .ensures
+    c .product-cut .ensures
     ∙ ap (λ (n : ℕ). cutOf (s .args .scale .base) (s .args .scale .digits) n (denominator s)) (product-value (p .0) (p .1) (p .2) (s .args .up))
 
-cut-requires : tie.Need-cut-requires
-cut-requires c κs =
-    let p = c .before .before .before .before .before .before .pre in
-    (p .0, product-small (p .0) (p .1) (p .2), omega (arith, p .1 .place-most, p .2 .place-most, p .3), omega (arith, p .4), full-unit (p .0))
+product-cut-requires : tie.Need-product-cut-requires
+product-cut-requires c κs =
+    let p = c .before .before .before .before .pre in
+    (p .0, product-small (p .0) (p .1) (p .2), omega (arith, p .1 .place-most, p .2 .place-most, p .3), omega (arith, p .4))
 
 deliver-requires : tie.Need-deliver-requires
 deliver-requires c κs =
@@ -87,10 +81,8 @@ product-spec =
     cast-n
     cast-n-2
     mul-n
-    add-cut
-    add-cut-2
-    cast-cut
-    sub-cut
-    cut-requires
+    add-product-cut
+    add-product-cut-2
+    product-cut-requires
     deliver-requires
     returns)

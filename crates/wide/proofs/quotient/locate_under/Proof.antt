@@ -2,12 +2,12 @@
 use borrow.Author.Needs.{needs}
 use Prim.Native.Nat.{ℕ, _*_, _≤_}
 use mathlib.Core.Path.{sym, ap, _∙_}
-use native.Mathlib.Nat.{mul-le-mul}
+use native.Mathlib.Nat.{mul-le-mul, mul-pos}
 use native.Mathlib.Omega.{arith}
 use Rattle.format.specs.Formats.{greatestPower}
 use Rattle.rounding.specs.Location.{located}
 use Rattle.rounding.proofs.Scales.{power-at, power-one}
-use Rattle.wide.proofs.Quotients.{under-below}
+use Rattle.wide.proofs.Quotients.{leading-pos, under-below}
 use Rattle.wide.proofs.quotient.locate_under.Statement.{statement}
 use Rattle.wide.proofs.quotient.locate_under.Tie as tie
 
@@ -22,7 +22,9 @@ mul-locate c =
     omega (arith, mul-le-mul b-most (p .0 .base-most))
 
 locate-requires : tie.Need-locate-requires
-locate-requires c κs = search needs
+locate-requires c κs =
+    let p = c .before .before .pre in
+    (omega (arith, p .1 .most, p .0 .top-most), mul-pos (leading-pos (p .0) (p .2)) (omega (arith, p .0 .base-least)))
 
 returns : tie.Need-returns
 returns c =

@@ -3,7 +3,6 @@ use borrow.Author.Needs.{needs}
 use Prim.Native.Nat.{_*_, _-_, _≤_}
 use native.Mathlib.Nat.{mul-le-mul-left}
 use native.Mathlib.Omega.{arith}
-use Rattle.rounding.proofs.Scales.{one-unit}
 use Rattle.wide.specs.Quotient.{Shifted}
 use Rattle.wide.proofs.Quotients.{digits-fit, shifted}
 use Rattle.wide.proofs.quotient.normalise.Statement.{statement}
@@ -13,7 +12,7 @@ digit-count-requires : tie.Need-digit-count-requires
 digit-count-requires c κs =
     let p = c .pre in
     let some : 1 ≤ c .args .scale .top = omega arith in
-    (p .0, p .1, omega (arith, mul-le-mul-left (c .args .scale .top) some), one-unit (p .0))
+    (p .0, p .1, omega (arith, mul-le-mul-left (c .args .scale .top) some))
 
 sub-shift : tie.Need-sub-shift
 sub-shift c = let p = c .before .before .pre in digits-fit (p .0) (c .before .digit-count .ensures) (p .2)

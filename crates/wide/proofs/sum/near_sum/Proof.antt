@@ -3,7 +3,7 @@ use borrow.Author.Needs.{needs}
 use Prim.Native.Nat.{_+_, _*_, _^_, _<_}
 use native.Mathlib.Omega.{arith}
 use Rattle.rounding.proofs.Scales.{square, square-most}
-use Rattle.wide.proofs.Sums.{near-most, near-sum-cut}
+use Rattle.wide.proofs.Sums.{near-most, near-below, near-sum-cut}
 use Rattle.wide.proofs.sum.near_sum.Statement.{statement}
 use Rattle.wide.proofs.sum.near_sum.Tie as tie
 
@@ -28,18 +28,23 @@ cast-add-signed c = search needs
 add-signed-requires : tie.Need-add-signed-requires
 add-signed-requires c κs = omega (arith, most (c .before .before), fits (c .before .before .before))
 
-cut-requires : tie.Need-cut-requires
-cut-requires c κs =
+near-cut-requires : tie.Need-near-cut-requires
+near-cut-requires c κs =
     let b = c .before .before .before in
-    let p = b .before .pre in
-    (p .0, omega (arith, most b, c .add-signed .ensures .most), omega (arith, p .2 .place-most), omega arith, record { is = b .power .ensures; most = p .4 })
+    let p = b .before .pre in (
+      p .0,
+      record { is = b .power .ensures; most = p .4 },
+      omega (arith, near-below (p .0) (p .1) (p .2) (b .before .args .gap) (p .3) (b .power .ensures), c .add-signed .ensures .most),
+      omega (arith, most b, c .add-signed .ensures .most),
+      p .2 .place-most,
+    )
 
 returns : tie.Need-returns
 returns c =
     let b = c .before .before .before .before in
     let s = b .before in
     let p = s .pre in
-    near-sum-cut (p .0) (p .1) (p .2) (s .args .gap) (p .3) (b .power .ensures) (c .before .add-signed .ensures) (c .cut .ensures)
+    near-sum-cut (p .0) (p .1) (p .2) (s .args .gap) (p .3) (b .power .ensures) (c .before .add-signed .ensures) (c .near-cut .ensures)
 
 pub near-sum-spec : {M : Type 1} → statement M
 near-sum-spec =
@@ -50,5 +55,5 @@ near-sum-spec =
     mul-high
     cast-add-signed
     add-signed-requires
-    cut-requires
+    near-cut-requires
     returns)
