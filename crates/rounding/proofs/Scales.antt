@@ -61,9 +61,6 @@ module _ {s : Scale} (h : Scaled s) where
   pub full-unit : Unit s (s .full) (s .digits - 1)
   full-unit = record { is = h .full-power; most = omega arith }
 
-  pub one-unit : Unit s 1 0
-  one-unit = record { is = sym (pow-zero (s .base)); most = omega arith }
-
   -- a number below top * top has at most twice the digits
   pub count-most : {n c : ℕ} → s .base ^ c ≤ s .base * n → n < s .top * s .top → c ≤ 2 * s .digits
   count-most {n} {c} l m = count-le (h .base-least) c (2 * s .digits) l (omega (arith, square))

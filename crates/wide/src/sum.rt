@@ -26,7 +26,8 @@ struct SignedSize {
     size: u64,
 }
 
-// The sum of two signed magnitudes of one unit. The difference is at hand before the signs are compared, so that nothing branches on them.
+// The sum of two signed magnitudes of one unit. The difference is worked out before the signs are compared, so that values are
+// selected and not branched on.
 fn add_signed(a: bool, v: u64, b: bool, w: u64) -> SignedSize
     requires { ⌜ v + w < 2 ^ 64 ⌝ }
     ensures { λ r. ⌜ Adds a v b w (r .negative) (r .size) ⌝ }

@@ -1,6 +1,5 @@
 -- `wide::quotient::divide_shifted` meets its contract: one division.
 use borrow.Author.Needs.{needs}
-use Prim.Native.Nat.{_*_}
 use native.Mathlib.Nat.{mul-le-mul-right}
 use native.Mathlib.Omega.{arith}
 use Rattle.rounding.proofs.Scales.{square, square-most}
