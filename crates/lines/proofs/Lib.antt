@@ -2,6 +2,9 @@
 pub mod Digits
 pub mod PatternPlaces
 pub mod PatternNeighbours
+pub mod PatternText
+pub mod WordLaws
 pub mod Stores
 pub mod LineLaws
+pub mod PatternLines
 pub mod BlockLaws

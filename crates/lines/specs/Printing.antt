@@ -1,5 +1,5 @@
 -- The line that is printed for a line that was read.
-use Prim.Native.Nat.{ℕ, zero, suc, _+_, _/_, _%_, _^_}
+use Prim.Native.Nat.{ℕ, zero, suc, _+_, _*_, _-_, _/_, _%_, _^_, _≤_, _<_}
 use mathlib.Core.Path.{_≡_}
 use mathlib.Core.Bool.{cond}
 use mathlib.Core.List.{List, [], _∷_, _++_}
@@ -70,6 +70,11 @@ fieldText (pattern.Refused why) = dash
 
 abbrev pub fields : Places → List (List ℕ)
 fields q = fieldText (q .first) ∷ fieldText (q .last) ∷ fieldText (q .below) ∷ fieldText (q .above) ∷ []
+
+-- a number with a normal ulp, below the greatest
+pub record Common (n : ℕ) : Type 0 where
+  pub least : 24 * 2 ^ 23 ≤ n % 2 ^ 31
+  pub most : n % 2 ^ 31 < 255 * 2 ^ 23 - 1
 
 -- ---- the printed line, without its line feed
 -- for a pattern that was read so

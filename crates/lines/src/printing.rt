@@ -2,6 +2,9 @@
 // position after what it stored.
 use crate::Line;
 use crate::Places;
+use crate::lanes::letters;
+use crate::lanes::letters_beside;
+use crate::lanes::letters_of;
 use crate::units_of_pattern::places_of;
 use binary32::Pattern;
 use binary32::patterns::read_pattern;
@@ -10,7 +13,8 @@ ghost use mathlib.Core.Path.{_≡_};
 ghost use mathlib.Core.List.{[], _∷_, _++_};
 ghost use Prim.Native.Nat.{_+_, _≤_, _<_};
 ghost use lib.ListN.{length};
-ghost use Rattle.lines.specs.Printing.{Put, glyph, eightDigits, fieldText, fields, spaced, patternText, textOf, lineFeed};
+ghost use Rattle.lines.specs.Lanes.{bytesOf, digitsOf};
+ghost use Rattle.lines.specs.Printing.{Put, Common, fieldText, fields, spaced, patternText, textOf, lineFeed};
 
 // The bytes of a text.
 fn put_text(out: &mut [u8], at: usize, text: &[u8]) -> usize
@@ -25,32 +29,21 @@ fn put_text(out: &mut [u8], at: usize, text: &[u8]) -> usize
     at + i
 }
 
-// A digit in lower case.
-fn hex_digit(digit: u32) -> u8
-    requires { ⌜ digit < 16 ⌝ }
-    ensures { λ r. ⌜ r ≡ glyph digit ⌝ }
+// The eight bytes of a word, the lowest first, and the byte that ends them.
+fn put_word(out: &mut [u8], at: usize, word: u64, end: u8) -> usize
+    requires { ⌜ at + 9 ≤ length (now out) ⌝ }
+    ensures { λ r. ⌜ Put at (bytesOf 8 word ++ end ∷ []) (now (out .entry)) r (now (out .exit)) ⌝ }
 {
-    if digit < 10 {
-        return (digit + 48) as u8;
-    }
-    (digit + 87) as u8
-}
-
-// Eight digits and the byte that ends them.
-fn hex_text(pattern: u32, end: u8) -> [u8; 9]
-    ensures { λ r. ⌜ r ≡ eightDigits pattern ++ end ∷ [] ⌝ }
-{
-    [
-        hex_digit(pattern / 268435456 % 16),
-        hex_digit(pattern / 16777216 % 16),
-        hex_digit(pattern / 1048576 % 16),
-        hex_digit(pattern / 65536 % 16),
-        hex_digit(pattern / 4096 % 16),
-        hex_digit(pattern / 256 % 16),
-        hex_digit(pattern / 16 % 16),
-        hex_digit(pattern % 16),
-        end,
-    ]
+    out[at] = (word % 256) as u8;
+    out[at + 1] = (word / 256 % 256) as u8;
+    out[at + 2] = (word / 65536 % 256) as u8;
+    out[at + 3] = (word / 16777216 % 256) as u8;
+    out[at + 4] = (word / 4294967296 % 256) as u8;
+    out[at + 5] = (word / 1099511627776 % 256) as u8;
+    out[at + 6] = (word / 281474976710656 % 256) as u8;
+    out[at + 7] = (word / 72057594037927936 % 256) as u8;
+    out[at + 8] = end;
+    at + 9
 }
 
 // A pattern, or - where there is none, and the byte that ends it.
@@ -59,10 +52,7 @@ fn put_field(out: &mut [u8], at: usize, field: Pattern, end: u8) -> usize
     ensures { λ r. ⌜ Put at (fieldText field ++ end ∷ []) (now (out .entry)) r (now (out .exit)) ⌝ }
 {
     match field {
-        Pattern::Written(pattern) => {
-            let text = hex_text(pattern, end);
-            put_text(out, at, &text)
-        }
+        Pattern::Written(pattern) => put_word(out, at, letters_of(pattern), end),
         Pattern::Refused(_) => {
             let text = [45, end];
             put_text(out, at, &text)
@@ -95,6 +85,41 @@ fn put_pattern(out: &mut [u8], at: usize, pattern: u32) -> usize
         Answer::Refused(_) => put_text(out, next, b"refused 9\n"),
         Answer::Value(_) => put_places(out, next, places_of(pattern)),
     }
+}
+
+// The line for a pattern with a normal ulp, neither the greatest number nor the least: its digits are at hand, and those of its
+// neighbours are nearly the same.
+fn put_common(out: &mut [u8], at: usize, pattern: u32, digits: u64) -> usize
+    requires { ⌜ (at + 45 ≤ length (now out)) × (digits ≡ digitsOf pattern) × Common pattern ⌝ }
+    ensures { λ r. ⌜ Put at (patternText pattern ++ lineFeed) (now (out .entry)) r (now (out .exit)) ⌝ }
+{
+    let minus = pattern / 2147483648;
+    let below = pattern + minus * 2 - 1;
+    let above = pattern + 1 - minus * 2;
+    let field = pattern % 2147483648 / 8388608;
+    let first = field * 8388608;
+    let last = (field - 23) * 8388608;
+    let shown = letters(digits);
+    let second = put_word(out, at, shown, 32);
+    let third = put_word(out, second, letters_of(first), 32);
+    let fourth = put_word(out, third, letters_of(last), 32);
+    let fifth = put_word(out, fourth, letters_beside(shown, pattern, below), 32);
+    put_word(out, fifth, letters_beside(shown, pattern, above), 10)
+}
+
+// The line for a pattern whose digits are at hand.
+pub fn put_digits(out: &mut [u8], at: usize, pattern: u32, digits: u64) -> usize
+    requires { ⌜ (at + 45 ≤ length (now out)) × (digits ≡ digitsOf pattern) ⌝ }
+    ensures { λ r. ⌜ Put at (patternText pattern ++ lineFeed) (now (out .entry)) r (now (out .exit)) ⌝ }
+{
+    let size = pattern % 2147483648;
+    if size < 201326592 {
+        return put_pattern(out, at, pattern);
+    }
+    if 2139095039 <= size {
+        return put_pattern(out, at, pattern);
+    }
+    put_common(out, at, pattern, digits)
 }
 
 // The line for a line that was read.
