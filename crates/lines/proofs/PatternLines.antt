@@ -21,7 +21,7 @@ use Rattle.lines.specs.Lanes.{word, Lanewise, Joined, digitAt, digitsOf,
 use Rattle.lines.specs.Printing.{glyph, patternText, printed, textOf, badLine, lineFeed}
 use Rattle.lines.specs.Blocks.{PatternAt, patternAt, ended, begun}
 use Rattle.lines.proofs.Digits.{Digit, Bounds, digits, digit-value, digit-small, bounds}
-use Rattle.lines.proofs.WordLaws.{row, word-as, same-bytes, glyph-byte}
+use Rattle.lines.proofs.WordLaws.{row, word-as, word-upto, same-bytes, glyph-byte}
 use Rattle.lines.proofs.LineLaws.{digit-below, fed-printed}
 
 -- ---- a byte that is the letter of its own value is a digit
@@ -70,11 +70,6 @@ low-value : {b : ℕ} → Digit b → lowValue b ≡ digitOf b
 low-value {b} d =
     let mark : b / 64 % 2 ≡ b / 64 = omega (arith, bounds d .high) in
     rw mark (mod-eq-of-lt (digit-small d) ∙ digit-value d)
-
-word-upto : (k : ℕ) (f g : ℕ → ℕ) → ((j : ℕ) → j < k → f j ≡ g j) → word k f ≡ word k g
-word-upto zero f g h = refl
-word-upto (suc k) f g h =
-    ap₂ (λ (w b : ℕ). w * 256 + b) (word-upto k (λ j. f (suc j)) (λ j. g (suc j)) (λ j l. h (suc j) (omega arith))) (h 0 (omega arith))
 
 -- the digits of a number that is made of digits
 digit-back : (d : ℕ → ℕ) → ((j : ℕ) → d j < 16) → (j : ℕ) → j < 8 → digitAt (fromDigits d) j ≡ d j

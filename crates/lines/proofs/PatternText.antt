@@ -1,31 +1,26 @@
--- The line that is printed for a pattern with a normal ulp, below the greatest.
+-- The line that is printed for a normal number below the greatest.
 use Prim.Native.Nat.{ℕ, _+_, _*_, _-_, _/_, _%_, _^_, _≤_, _<_}
 use mathlib.Core.Path.{_≡_, refl, sym, ap, _∙_}
 use mathlib.Core.Bool.{true}
 use mathlib.Core.List.{[], _∷_, _++_}
 use native.Mathlib.Decide.{decLt}
 use native.Mathlib.Omega.{arith}
+use borrow.Author.Tests.{lt-ltb, le-ltb}
 use Rattle.format.specs.Published.{binary32}
 use Rattle.number.specs.declared.Answer.{Answer}
+use Rattle.units.specs.Places.{lastPlace}
 use Rattle.units.specs.Neighbours.{predecessorOf, successorOf}
 use Rattle.binary32.specs.declared.Pattern.the-variants.{Written}
 use Rattle.binary32.specs.Patterns.{finite, numberRead, answerWritten}
 use Rattle.binary32.proofs.RoundTrips.{read-made}
 use Rattle.lines.specs.declared.Places.{Places}
-use Rattle.lines.specs.Printing.{Common, eightDigits, fields, spaced, placesOf, answeredText, patternText, lineFeed}
-use Rattle.lines.proofs.PatternPlaces.{ufp-normal, ulp-normal}
+use Rattle.lines.specs.Printing.{Normal, lastOf, eightDigits, fields, spaced, placesOf, answeredText, patternText, lineFeed}
+use Rattle.lines.proofs.PatternPlaces.{ufp-normal, ulp-small, ulp-normal}
 use Rattle.lines.proofs.PatternNeighbours.{finite-made, above-plus, above-minus, below-plus, below-minus}
 
-module _ (n : ℕ) (fits : n < 2 ^ 32) (h : Common n) where
+module _ (n : ℕ) (fits : n < 2 ^ 32) (h : Normal n) where
   number : finite n ≡ true
   number = finite-made n (omega arith)
-
-  -- what the neighbours are computed by does not wrap
-  pub below-fits : n + n / 2 ^ 31 * 2 < 2 ^ 32
-  below-fits = omega arith
-
-  pub above-fits : n + 1 < 2 ^ 32
-  above-fits = omega arith
 
   below-is : Written (n + n / 2 ^ 31 * 2 - 1) ≡ answerWritten (predecessorOf binary32 (numberRead n))
   below-is = by (decLt n (2 ^ 31))
@@ -41,24 +36,31 @@ module _ (n : ℕ) (fits : n < 2 ^ 32) (h : Common n) where
       by (yes l) = let e : n + 1 - n / 2 ^ 31 * 2 ≡ n + 1 = omega arith in ap Written e ∙ above-plus n number l (λ z. omega arith)
       by (no l) = let e : n + 1 - n / 2 ^ 31 * 2 ≡ n - 1 = omega arith in ap Written e ∙ above-minus n number (omega arith) fits
 
+  last-is : Written (lastOf (n % 2 ^ 31 / 2 ^ 23)) ≡ answerWritten (lastPlace binary32 (numberRead n))
+  last-is = by (decLt (n % 2 ^ 31 / 2 ^ 23) 24)
+    where
+      by : Dec (n % 2 ^ 31 / 2 ^ 23 < 24) → Written (lastOf (n % 2 ^ 31 / 2 ^ 23)) ≡ answerWritten (lastPlace binary32 (numberRead n))
+      by (yes l) = rw (lt-ltb (n % 2 ^ 31 / 2 ^ 23) 24 l) (ulp-small n number (2 ^ (n % 2 ^ 31 / 2 ^ 23 - 1)) (omega arith) l refl)
+      by (no l) = rw (le-ltb (n % 2 ^ 31 / 2 ^ 23) 24 (omega arith)) (ulp-normal n number (omega arith))
+
   places-are
       : record {
         first = Written (n % 2 ^ 31 / 2 ^ 23 * 2 ^ 23);
-        last = Written ((n % 2 ^ 31 / 2 ^ 23 - 23) * 2 ^ 23);
+        last = Written (lastOf (n % 2 ^ 31 / 2 ^ 23));
         below = Written (n + n / 2 ^ 31 * 2 - 1);
         above = Written (n + 1 - n / 2 ^ 31 * 2);
       }
       ≡ placesOf (numberRead n)
-  places-are = λ i. record { first = ufp-normal n number (omega arith) i; last = ulp-normal n number (omega arith) i; below = below-is i; above = above-is i }
+  places-are = λ i. record { first = ufp-normal n number (omega arith) i; last = last-is i; below = below-is i; above = above-is i }
 
-  pub common-text
+  pub normal-text
       : (eightDigits n ++ 32 ∷ [])
       ++ ((eightDigits (n % 2 ^ 31 / 2 ^ 23 * 2 ^ 23) ++ 32 ∷ [])
-      ++ ((eightDigits ((n % 2 ^ 31 / 2 ^ 23 - 23) * 2 ^ 23) ++ 32 ∷ [])
+      ++ ((eightDigits (lastOf (n % 2 ^ 31 / 2 ^ 23)) ++ 32 ∷ [])
       ++ ((eightDigits (n + n / 2 ^ 31 * 2 - 1) ++ 32 ∷ [])
       ++ (eightDigits (n + 1 - n / 2 ^ 31 * 2) ++ lineFeed))))
       ≡ patternText n ++ lineFeed
   unfolding patternText
-  common-text =
+  normal-text =
       ap (λ (q : Places). spaced (eightDigits n ∷ fields q) ++ lineFeed) places-are
       ∙ ap (λ (a : Answer). answeredText n a ++ lineFeed) (sym (read-made n number))

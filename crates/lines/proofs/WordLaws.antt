@@ -5,7 +5,7 @@ use mathlib.Core.List.{List, [], _∷_}
 use native.Mathlib.Nat.{div-one, add-zero, add-comm, mul-assoc, mod-lt, add-mul-div-right, div-lt-iff-lt-mul, div-div-eq-div-mul, mul-add-mod-self-right, mod-eq-of-lt}
 use native.Mathlib.Omega.{arith}
 use native.Mathlib.Decide.{decLt}
-use lib.Bits.{bitAnd, bitOr, and-block, or-block, and-mask, and-zero-r, and-le-r}
+use lib.Bits.{bitAnd, bitOr, and-block, or-block, and-mask, and-zero-r, and-le-r, and-high}
 use lib.Pow.{pow-pos, split}
 use borrow.Author.Tests.{lt-ltb, le-ltb}
 use Rattle.lines.specs.Printing.{glyph, eightDigits}
@@ -14,6 +14,11 @@ use Rattle.lines.specs.Lanes.{word, bytesOf, Lanewise, digitAt, digitsOf
 -- the same bytes, written otherwise
 pub word-as : {f g : ℕ → ℕ} (k : ℕ) → ((i : ℕ) → f i ≡ g i) → word k f ≡ word k g
 word-as k h = λ j. word k (λ i. h i j)
+
+pub word-upto : (k : ℕ) (f g : ℕ → ℕ) → ((j : ℕ) → j < k → f j ≡ g j) → word k f ≡ word k g
+word-upto zero f g h = refl
+word-upto (suc k) f g h =
+    ap₂ (λ (w b : ℕ). w * 256 + b) (word-upto k (λ j. f (suc j)) (λ j. g (suc j)) (λ j l. h (suc j) (omega arith))) (h 0 (omega arith))
 
 -- ---- sums and multiples
 pub word-add : (k : ℕ) (f g : ℕ → ℕ) → word k f + word k g ≡ word k (λ i. f i + g i)
@@ -233,3 +238,41 @@ beside n m {r} e l =
     ap₂ (λ (k b : ℕ). k + b * 2 ^ 48) high low
     ∙ add-comm (word 6 (λ i. glyph (digitAt m i))) ((glyph (p 1) * 256 + glyph (p 0)) * 2 ^ 48)
     ∙ sym (highest-two (λ i. glyph (digitAt m i)) (glyphs m))
+
+-- ---- the power of two that a field stands for
+-- the mask of the field's digits
+abbrev fieldMask : ℕ → ℕ
+fieldMask zero = 7
+fieldMask (suc zero) = 15
+fieldMask (suc (suc zero)) = 8
+fieldMask (suc (suc (suc i))) = 0
+
+mask-small : (i : ℕ) → fieldMask i < 256
+mask-small zero = omega arith
+mask-small (suc zero) = omega arith
+mask-small (suc (suc zero)) = omega arith
+mask-small (suc (suc (suc i))) = omega arith
+
+module _ (n : ℕ) where
+  unfoldable power : ℕ
+  power = n % 2 ^ 31 / 2 ^ 23 * 2 ^ 23
+
+  masked-digit : (i : ℕ) → i < 8 → bitAnd (digitAt n i) (fieldMask i) ≡ digitAt power i
+  unfolding power
+  masked-digit zero l = and-mask (digitAt n 0) 3 ∙ omega arith
+  masked-digit (suc zero) l = and-mask (digitAt n 1) 4 ∙ omega arith
+  masked-digit (suc (suc zero)) l = and-high (digitAt n 2) 1 3 ∙ omega arith
+  masked-digit (suc (suc (suc zero))) l = and-zero-r (digitAt n 3) ∙ omega arith
+  masked-digit (suc (suc (suc (suc zero)))) l = and-zero-r (digitAt n 4) ∙ omega arith
+  masked-digit (suc (suc (suc (suc (suc zero))))) l = and-zero-r (digitAt n 5) ∙ omega arith
+  masked-digit (suc (suc (suc (suc (suc (suc zero)))))) l = and-zero-r (digitAt n 6) ∙ omega arith
+  masked-digit (suc (suc (suc (suc (suc (suc (suc zero))))))) l = and-zero-r (digitAt n 7) ∙ omega arith
+  masked-digit (suc (suc (suc (suc (suc (suc (suc (suc i)))))))) l = absurd (omega arith)
+
+  pub field-digits : bitAnd (digitsOf n) 0x0008_0f07 ≡ digitsOf (n % 2 ^ 31 / 2 ^ 23 * 2 ^ 23)
+  unfolding power digitsOf
+  field-digits =
+      ap (λ (x : ℕ). bitAnd x 0x0008_0f07) (sym (div-one (word 8 (digitAt n))))
+      ∙ word-mask 0 8 refl 8 (digitAt n) fieldMask (λ i. omega arith) mask-small
+      ∙ word-as 8 (λ i. ap (λ (d : ℕ). bitAnd d (fieldMask i)) (div-one (digitAt n i)))
+      ∙ word-upto 8 (λ i. bitAnd (digitAt n i) (fieldMask i)) (digitAt power) masked-digit

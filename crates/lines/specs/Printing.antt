@@ -71,10 +71,14 @@ fieldText (pattern.Refused why) = dash
 abbrev pub fields : Places → List (List ℕ)
 fields q = fieldText (q .first) ∷ fieldText (q .last) ∷ fieldText (q .below) ∷ fieldText (q .above) ∷ []
 
--- a number with a normal ulp, below the greatest
-pub record Common (n : ℕ) : Type 0 where
-  pub least : 24 * 2 ^ 23 ≤ n % 2 ^ 31
+-- the pattern of a normal number below the greatest
+pub record Normal (n : ℕ) : Type 0 where
+  pub least : 2 ^ 23 ≤ n % 2 ^ 31
   pub most : n % 2 ^ 31 < 255 * 2 ^ 23 - 1
+
+-- the pattern of its ulp, from its field: a small number up to place 22
+abbrev pub lastOf : (field : ℕ) → ℕ
+lastOf field = cond (ltb field 24) (2 ^ (field - 1)) ((field - 23) * 2 ^ 23)
 
 -- ---- the printed line, without its line feed
 -- for a pattern that was read so

@@ -13,8 +13,8 @@ ghost use mathlib.Core.Path.{_≡_};
 ghost use mathlib.Core.List.{[], _∷_, _++_};
 ghost use Prim.Native.Nat.{_+_, _≤_, _<_};
 ghost use lib.ListN.{length};
-ghost use Rattle.lines.specs.Lanes.{bytesOf, digitsOf};
-ghost use Rattle.lines.specs.Printing.{Put, Common, fieldText, fields, spaced, patternText, textOf, lineFeed};
+ghost use Rattle.lines.specs.Lanes.{bytesOf, digitsOf, shownOf};
+ghost use Rattle.lines.specs.Printing.{Put, Normal, lastOf, fieldText, fields, spaced, patternText, textOf, lineFeed};
 
 // The bytes of a text.
 fn put_text(out: &mut [u8], at: usize, text: &[u8]) -> usize
@@ -87,22 +87,31 @@ fn put_pattern(out: &mut [u8], at: usize, pattern: u32) -> usize
     }
 }
 
-// The line for a pattern with a normal ulp, neither the greatest number nor the least: its digits are at hand, and those of its
+// The letters of the ulp of a normal number, from its field.
+fn last_letters(field: u32) -> u64
+    requires { ⌜ (1 ≤ field) × (field < 255) ⌝ }
+    ensures { λ r. ⌜ r ≡ shownOf (lastOf field) ⌝ }
+{
+    if field < 24 {
+        return letters_of(1 << (field - 1));
+    }
+    letters_of((field - 23) * 8388608)
+}
+
+// The line for a normal number below the greatest, whose digits are at hand: those of its ufp are among them, and those of its
 // neighbours are nearly the same.
-fn put_common(out: &mut [u8], at: usize, pattern: u32, digits: u64) -> usize
-    requires { ⌜ (at + 45 ≤ length (now out)) × (digits ≡ digitsOf pattern) × Common pattern ⌝ }
+fn put_normal(out: &mut [u8], at: usize, pattern: u32, digits: u64) -> usize
+    requires { ⌜ (at + 45 ≤ length (now out)) × (digits ≡ digitsOf pattern) × Normal pattern ⌝ }
     ensures { λ r. ⌜ Put at (patternText pattern ++ lineFeed) (now (out .entry)) r (now (out .exit)) ⌝ }
 {
     let minus = pattern / 2147483648;
     let below = pattern + minus * 2 - 1;
     let above = pattern + 1 - minus * 2;
     let field = pattern % 2147483648 / 8388608;
-    let first = field * 8388608;
-    let last = (field - 23) * 8388608;
     let shown = letters(digits);
     let second = put_word(out, at, shown, 32);
-    let third = put_word(out, second, letters_of(first), 32);
-    let fourth = put_word(out, third, letters_of(last), 32);
+    let third = put_word(out, second, letters(digits & 0x0008_0f07), 32);
+    let fourth = put_word(out, third, last_letters(field), 32);
     let fifth = put_word(out, fourth, letters_beside(shown, pattern, below), 32);
     put_word(out, fifth, letters_beside(shown, pattern, above), 10)
 }
@@ -113,13 +122,13 @@ pub fn put_digits(out: &mut [u8], at: usize, pattern: u32, digits: u64) -> usize
     ensures { λ r. ⌜ Put at (patternText pattern ++ lineFeed) (now (out .entry)) r (now (out .exit)) ⌝ }
 {
     let size = pattern % 2147483648;
-    if size < 201326592 {
+    if size < 8388608 {
         return put_pattern(out, at, pattern);
     }
     if 2139095039 <= size {
         return put_pattern(out, at, pattern);
     }
-    put_common(out, at, pattern, digits)
+    put_normal(out, at, pattern, digits)
 }
 
 // The line for a line that was read.
