@@ -2,8 +2,8 @@
 pub mod Digits
 pub mod PatternPlaces
 pub mod PatternNeighbours
-pub mod PatternText
 pub mod WordLaws
+pub mod PatternText
 pub mod Stores
 pub mod LineLaws
 pub mod PatternLines

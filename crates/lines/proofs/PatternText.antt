@@ -1,4 +1,4 @@
--- The line that is printed for a normal number below the greatest.
+-- The line that is printed for a common pattern.
 use Prim.Native.Nat.{ℕ, _+_, _*_, _-_, _/_, _%_, _^_, _≤_, _<_}
 use mathlib.Core.Path.{_≡_, refl, sym, ap, _∙_}
 use mathlib.Core.Bool.{true}
@@ -14,11 +14,18 @@ use Rattle.binary32.specs.declared.Pattern.the-variants.{Written}
 use Rattle.binary32.specs.Patterns.{finite, numberRead, answerWritten}
 use Rattle.binary32.proofs.RoundTrips.{read-made}
 use Rattle.lines.specs.declared.Places.{Places}
-use Rattle.lines.specs.Printing.{Normal, lastOf, eightDigits, fields, spaced, placesOf, answeredText, patternText, lineFeed}
+use Rattle.lines.specs.Lanes.{shownOf, shownByte}
+use Rattle.lines.specs.Printing.{Common, lastOf, eightDigits, fields, spaced, placesOf, answeredText, patternText, lineFeed}
+use Rattle.lines.proofs.WordLaws.{beside}
 use Rattle.lines.proofs.PatternPlaces.{ufp-normal, ulp-small, ulp-normal}
 use Rattle.lines.proofs.PatternNeighbours.{finite-made, above-plus, above-minus, below-plus, below-minus}
 
-module _ (n : ℕ) (fits : n < 2 ^ 32) (h : Normal n) where
+pub common-made : (n : ℕ) → 3 ≤ (n % 2 ^ 31 / 2 ^ 23 + 2) % 256 → 2 ≤ (n % 256 + 1) % 256 → Common n
+common-made n f l =
+    let field : (1 ≤ n % 2 ^ 31 / 2 ^ 23) × (n % 2 ^ 31 / 2 ^ 23 < 254) = omega arith in
+    record { least = omega arith; most = omega arith; low = omega arith; high = omega arith }
+
+module _ (n : ℕ) (fits : n < 2 ^ 32) (h : Common n) where
   number : finite n ≡ true
   number = finite-made n (omega arith)
 
@@ -53,7 +60,7 @@ module _ (n : ℕ) (fits : n < 2 ^ 32) (h : Normal n) where
       ≡ placesOf (numberRead n)
   places-are = λ i. record { first = ufp-normal n number (omega arith) i; last = last-is i; below = below-is i; above = above-is i }
 
-  pub normal-text
+  pub common-text
       : (eightDigits n ++ 32 ∷ [])
       ++ ((eightDigits (n % 2 ^ 31 / 2 ^ 23 * 2 ^ 23) ++ 32 ∷ [])
       ++ ((eightDigits (lastOf (n % 2 ^ 31 / 2 ^ 23)) ++ 32 ∷ [])
@@ -61,6 +68,19 @@ module _ (n : ℕ) (fits : n < 2 ^ 32) (h : Normal n) where
       ++ (eightDigits (n + 1 - n / 2 ^ 31 * 2) ++ lineFeed))))
       ≡ patternText n ++ lineFeed
   unfolding patternText
-  normal-text =
+  common-text =
       ap (λ (q : Places). spaced (eightDigits n ∷ fields q) ++ lineFeed) places-are
       ∙ ap (λ (a : Answer). answeredText n a ++ lineFeed) (sym (read-made n number))
+
+  -- the letters of the neighbours
+  pub below-shown : shownOf n % 2 ^ 48 + shownByte (n % 256 + n / 2 ^ 31 * 2 - 1) * 2 ^ 48 ≡ shownOf (n + n / 2 ^ 31 * 2 - 1)
+  below-shown =
+      let m : ℕ = n + n / 2 ^ 31 * 2 - 1 in
+      let low : n % 256 + n / 2 ^ 31 * 2 - 1 ≡ m % 256 = omega arith in
+      ap (λ (b : ℕ). shownOf n % 2 ^ 48 + shownByte b * 2 ^ 48) low ∙ beside n m (omega arith)
+
+  pub above-shown : shownOf n % 2 ^ 48 + shownByte (n % 256 + 1 - n / 2 ^ 31 * 2) * 2 ^ 48 ≡ shownOf (n + 1 - n / 2 ^ 31 * 2)
+  above-shown =
+      let m : ℕ = n + 1 - n / 2 ^ 31 * 2 in
+      let low : n % 256 + 1 - n / 2 ^ 31 * 2 ≡ m % 256 = omega arith in
+      ap (λ (b : ℕ). shownOf n % 2 ^ 48 + shownByte b * 2 ^ 48) low ∙ beside n m (omega arith)

@@ -3,7 +3,7 @@ use Prim.Native.Nat.{ℕ, zero, suc, _+_, _*_, _-_, _/_, _%_, _^_, _<_}
 use mathlib.Core.Path.{_≡_}
 use mathlib.Core.List.{List, [], _∷_}
 use lib.Bits.{bitOr}
-use Rattle.lines.specs.Printing.{glyph}
+use Rattle.lines.specs.Printing.{Common, glyph}
 
 -- the word of the bytes f 0 to f (k - 1)
 abbrev pub word : (k : ℕ) → (ℕ → ℕ) → ℕ
@@ -30,6 +30,18 @@ digitsOf n = word 8 (digitAt n)
 -- their letters, as a word
 unfoldable pub shownOf : ℕ → ℕ
 shownOf n = word 8 (λ i. glyph (digitAt n i))
+
+-- the letters of a byte, as two bytes of a word
+abbrev pub shownByte : ℕ → ℕ
+shownByte b = glyph (b % 16) * 256 + glyph (b / 16)
+
+-- r is g of the pattern whose digits are the bytes of x
+abbrev pub OfPattern : (g : ℕ → ℕ) (x r : ℕ) → Type 0
+OfPattern g x r = (n : ℕ) → n < 2 ^ 32 → x ≡ digitsOf n → r ≡ g n
+
+-- the pattern whose digits are the bytes of x is common
+abbrev pub CommonDigits : ℕ → Type 0
+CommonDigits x = (n : ℕ) → n < 2 ^ 32 → x ≡ digitsOf n → Common n
 
 -- the number with eight hexadecimal digits, the highest first
 abbrev pub fromDigits : (f : ℕ → ℕ) → ℕ

@@ -6,8 +6,10 @@ use crate::lanes::lower_case;
 use crate::lanes::pattern_of;
 use crate::lanes::values;
 use crate::lanes::word_at;
-use crate::printing::put_digits;
+use crate::printing::is_common;
+use crate::printing::put_common;
 use crate::printing::put_line;
+use crate::printing::put_pattern;
 use crate::reading::new_line;
 use crate::reading::push;
 use crate::reading::read_line;
@@ -57,7 +59,10 @@ fn answer_pattern(input: &[u8], i: usize, out: &mut [u8], at: usize) -> usize
     ensures { λ r. ⌜ Put at (patternText (patternAt (now (input .entry)) i) ++ lineFeed) (now (out .entry)) r (now (out .exit)) ⌝ }
 {
     let digits = values(word_at(input, i));
-    put_digits(out, at, pattern_of(digits), digits)
+    if is_common(digits) {
+        return put_common(out, at, pattern_of(digits), digits);
+    }
+    put_pattern(out, at, pattern_of(digits))
 }
 
 // A block of input: the lines that end in it are printed at the start of `out`.

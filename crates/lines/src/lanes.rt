@@ -1,9 +1,9 @@
 // Eight hexadecimal digits at once: their values or their letters are the bytes of one word, the first digit the lowest.
 ghost use mathlib.Core.Path.{_≡_};
-ghost use Prim.Native.Nat.{_+_, _≤_, _<_, _^_};
+ghost use Prim.Native.Nat.{_+_, _*_, _/_, _%_, _^_, _≤_, _<_};
 ghost use lib.ListN.{length, getD};
 ghost use Rattle.lines.specs.Printing.{glyph};
-ghost use Rattle.lines.specs.Lanes.{word, Lanewise, Joined, digitsOf, shownOf, lowValue, lowerCase};
+ghost use Rattle.lines.specs.Lanes.{word, Lanewise, Joined, OfPattern, digitsOf, shownOf, shownByte, lowValue, lowerCase};
 
 // The digits of a pattern.
 fn digits_of(pattern: u32) -> u64
@@ -18,15 +18,47 @@ fn digits_of(pattern: u32) -> u64
     high + low * 4294967296
 }
 
-// The pattern of eight digits: first their pairs, each a byte of the pattern.
+// The digits in pairs: each second byte is one of the pattern.
+fn pairs_of(digits: u64) -> u64
+    requires { ⌜ digits ≤ 0x0f0f_0f0f_0f0f_0f0f ⌝ }
+    ensures { λ r. ⌜ r ≡ digits * 16 + digits / 256 ⌝ }
+{
+    digits * 16 + digits / 256
+}
+
+// The pattern of eight digits.
 pub fn pattern_of(digits: u64) -> u32
     requires { ⌜ digits ≤ 0x0f0f_0f0f_0f0f_0f0f ⌝ }
     ensures { λ r. ⌜ Joined digits r ⌝ }
 {
-    let pairs = digits * 16 + digits / 256;
+    let pairs = pairs_of(digits);
     let high = pairs % 256 * 16777216 + pairs / 65536 % 256 * 65536;
     let low = pairs / 4294967296 % 256 * 256 + pairs / 281474976710656 % 256;
     (high + low) as u32
+}
+
+// 1 for a pattern with a minus sign.
+pub fn minus_of(digits: u64) -> u32
+    ensures { λ r. ⌜ (r < 2) × OfPattern (λ n. n / 2 ^ 31) digits r ⌝ }
+{
+    (digits / 8 % 2) as u32
+}
+
+// The field.
+pub fn field_of(digits: u64) -> u32
+    requires { ⌜ digits ≤ 0x0f0f_0f0f_0f0f_0f0f ⌝ }
+    ensures { λ r. ⌜ (r < 256) × OfPattern (λ n. n % 2 ^ 31 / 2 ^ 23) digits r ⌝ }
+{
+    let pairs = pairs_of(digits);
+    (pairs % 128 * 2 + pairs / 8388608 % 2) as u32
+}
+
+// The last byte.
+pub fn low_of(digits: u64) -> u32
+    requires { ⌜ digits ≤ 0x0f0f_0f0f_0f0f_0f0f ⌝ }
+    ensures { λ r. ⌜ (r < 256) × OfPattern (λ n. n % 256) digits r ⌝ }
+{
+    (pairs_of(digits) / 281474976710656 % 256) as u32
 }
 
 // The letters of digits: from 10 on they stand 39 further.
@@ -45,17 +77,14 @@ pub fn letters_of(pattern: u32) -> u64
     letters(digits_of(pattern))
 }
 
-// The letters of a pattern beside another, whose letters are at hand: as a rule only the last two differ.
-pub fn letters_beside(shown: u64, pattern: u32, next: u32) -> u64
-    requires { ⌜ shown ≡ shownOf pattern ⌝ }
-    ensures { λ r. ⌜ r ≡ shownOf next ⌝ }
+// The letters of two bytes, four in all.
+pub fn letters_of_bytes(first: u32, second: u32) -> u64
+    requires { ⌜ (first < 256) × (second < 256) ⌝ }
+    ensures { λ r. ⌜ (r % 65536 ≡ shownByte first) × (r / 65536 % 65536 ≡ shownByte second) ⌝ }
 {
-    if pattern / 256 == next / 256 {
-        let n = next as u64;
-        let low = letters(n / 16 % 16 + n % 16 * 256) % 65536;
-        return shown % 281474976710656 + low * 281474976710656;
-    }
-    letters_of(next)
+    let a = first as u64;
+    let b = second as u64;
+    letters(a / 16 + a % 16 * 256 + b / 16 * 65536 + b % 16 * 16777216)
 }
 
 // A byte.

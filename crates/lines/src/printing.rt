@@ -2,19 +2,23 @@
 // position after what it stored.
 use crate::Line;
 use crate::Places;
+use crate::lanes::field_of;
 use crate::lanes::letters;
-use crate::lanes::letters_beside;
 use crate::lanes::letters_of;
+use crate::lanes::letters_of_bytes;
+use crate::lanes::low_of;
+use crate::lanes::minus_of;
 use crate::units_of_pattern::places_of;
 use binary32::Pattern;
 use binary32::patterns::read_pattern;
 use number::Answer;
 ghost use mathlib.Core.Path.{_≡_};
+ghost use mathlib.Core.Bool.{true};
 ghost use mathlib.Core.List.{[], _∷_, _++_};
 ghost use Prim.Native.Nat.{_+_, _≤_, _<_};
 ghost use lib.ListN.{length};
-ghost use Rattle.lines.specs.Lanes.{bytesOf, digitsOf, shownOf};
-ghost use Rattle.lines.specs.Printing.{Put, Normal, lastOf, fieldText, fields, spaced, patternText, textOf, lineFeed};
+ghost use Rattle.lines.specs.Lanes.{CommonDigits, bytesOf, digitsOf, shownOf};
+ghost use Rattle.lines.specs.Printing.{Put, Common, lastOf, fieldText, fields, spaced, patternText, textOf, lineFeed};
 
 // The bytes of a text.
 fn put_text(out: &mut [u8], at: usize, text: &[u8]) -> usize
@@ -76,7 +80,7 @@ fn put_places(out: &mut [u8], at: usize, places: Places) -> usize
 }
 
 // The line for a pattern.
-fn put_pattern(out: &mut [u8], at: usize, pattern: u32) -> usize
+pub fn put_pattern(out: &mut [u8], at: usize, pattern: u32) -> usize
     requires { ⌜ at + 45 ≤ length (now out) ⌝ }
     ensures { λ r. ⌜ Put at (patternText pattern ++ lineFeed) (now (out .entry)) r (now (out .exit)) ⌝ }
 {
@@ -98,37 +102,40 @@ fn last_letters(field: u32) -> u64
     letters_of((field - 23) * 8388608)
 }
 
-// The line for a normal number below the greatest, whose digits are at hand: those of its ufp are among them, and those of its
-// neighbours are nearly the same.
-fn put_normal(out: &mut [u8], at: usize, pattern: u32, digits: u64) -> usize
-    requires { ⌜ (at + 45 ≤ length (now out)) × (digits ≡ digitsOf pattern) × Normal pattern ⌝ }
-    ensures { λ r. ⌜ Put at (patternText pattern ++ lineFeed) (now (out .entry)) r (now (out .exit)) ⌝ }
+// Is the pattern common that has these digits?
+pub fn is_common(digits: u64) -> bool
+    requires { ⌜ digits ≤ 0x0f0f_0f0f_0f0f_0f0f ⌝ }
+    ensures { λ r. ⌜ (r ≡ true → CommonDigits digits) ⌝ }
 {
-    let minus = pattern / 2147483648;
-    let below = pattern + minus * 2 - 1;
-    let above = pattern + 1 - minus * 2;
-    let field = pattern % 2147483648 / 8388608;
-    let shown = letters(digits);
-    let second = put_word(out, at, shown, 32);
-    let third = put_word(out, second, letters(digits & 0x0008_0f07), 32);
-    let fourth = put_word(out, third, last_letters(field), 32);
-    let fifth = put_word(out, fourth, letters_beside(shown, pattern, below), 32);
-    put_word(out, fifth, letters_beside(shown, pattern, above), 10)
+    let field = (field_of(digits) + 2) % 256;
+    let low = (low_of(digits) + 1) % 256;
+    if field < 3 {
+        return false;
+    }
+    2 <= low
 }
 
-// The line for a pattern whose digits are at hand.
-pub fn put_digits(out: &mut [u8], at: usize, pattern: u32, digits: u64) -> usize
-    requires { ⌜ (at + 45 ≤ length (now out)) × (digits ≡ digitsOf pattern) ⌝ }
+// The line for a common pattern whose digits are at hand: those of its ufp are among them, and its neighbours have the same but
+// for the last two.
+pub fn put_common(out: &mut [u8], at: usize, pattern: u32, digits: u64) -> usize
+    requires { ⌜ (at + 45 ≤ length (now out)) × (digits ≡ digitsOf pattern) × Common pattern ⌝ }
     ensures { λ r. ⌜ Put at (patternText pattern ++ lineFeed) (now (out .entry)) r (now (out .exit)) ⌝ }
 {
-    let size = pattern % 2147483648;
-    if size < 8388608 {
-        return put_pattern(out, at, pattern);
-    }
-    if 2139095039 <= size {
-        return put_pattern(out, at, pattern);
-    }
-    put_normal(out, at, pattern, digits)
+    let low = low_of(digits);
+    let minus = minus_of(digits);
+    let beside = letters_of_bytes(low + minus * 2 - 1, low + 1 - minus * 2);
+    let shown = letters(digits);
+    let kept = shown % 281474976710656;
+    let second = put_word(out, at, shown, 32);
+    let third = put_word(out, second, letters(digits & 0x0008_0f07), 32);
+    let fourth = put_word(out, third, last_letters(field_of(digits)), 32);
+    let fifth = put_word(out, fourth, kept + beside % 65536 * 281474976710656, 32);
+    put_word(
+        out,
+        fifth,
+        kept + beside / 65536 % 65536 * 281474976710656,
+        10,
+    )
 }
 
 // The line for a line that was read.

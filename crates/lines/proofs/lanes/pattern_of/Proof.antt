@@ -4,11 +4,8 @@ use Rattle.lines.proofs.WordLaws.{joined-pairs}
 use Rattle.lines.proofs.lanes.pattern_of.Statement.{statement}
 use Rattle.lines.proofs.lanes.pattern_of.Tie as tie
 
-mul-pairs : tie.Need-mul-pairs
-mul-pairs c = search needs
-
-add-pairs : tie.Need-add-pairs
-add-pairs c = search needs
+pairs-of-requires : tie.Need-pairs-of-requires
+pairs-of-requires c κs = search needs
 
 mul-high : tie.Need-mul-high
 mul-high c = search needs
@@ -32,14 +29,13 @@ cast-result : tie.Need-cast-result
 cast-result c = search needs
 
 returns : tie.Need-returns
-returns c = joined-pairs (c .args .digits)
+returns c = joined-pairs (c .before .args .digits) (c .pairs-of .ensures)
 
 pub pattern-of-spec : {M : Type 1} → statement M
 pattern-of-spec =
     tie.close
     (tie.spec
-    mul-pairs
-    add-pairs
+    pairs-of-requires
     mul-high
     mul-high-2
     add-high
