@@ -1,27 +1,27 @@
 -- Lines of eight digits that lie whole in a block: how they are known, and what they are fed byte by byte.
-use Prim.Native.Nat.{ℕ, zero, suc, _+_, _*_, _/_, _%_, _^_, _≤_, _<_}
+use Prim.Native.Nat.{ℕ, zero, suc, _+_, _*_, _/_, _%_, _≤_, _<_}
 use mathlib.Core.Path.{_≡_, refl, sym, ap, ap₂, _∙_}
 use mathlib.Core.Bool.{Bool, true, false, not, cond}
 use mathlib.Core.Logic.{⊎-elim}
-use mathlib.Core.List.{List, [], _∷_, _++_, append-assoc}
+use mathlib.Core.List.{List, [], _∷_, _++_}
 use native.Mathlib.Nat.{add-zero, add-suc, suc-add, mod-eq-of-lt, eq-or-lt-of-le}
-use native.Mathlib.Numerals.{add-one}
 use native.Mathlib.Omega.{arith}
 use lib.Dec.{eqb, ltb}
-use lib.Bits.{bitOr, or-lt}
+use lib.Bits.{or-lt}
 use lib.ListN.{length, drop, getD}
 use lib.Seq.{drop-cons}
-use borrow.Author.Tests.{eqb-true, eq-eqb, ne-eqb, ltb-true}
+use borrow.Author.Tests.{eq-eqb, ne-eqb, ltb-true}
 use Rattle.theory.specs.Tests.{_and_, _or_}
 use Rattle.theory.proofs.Tests.{never, not-true, and-left, and-right, and-made, or-cases}
 use Rattle.number.specs.Entry.{all}
 use Rattle.lines.specs.declared.Line.{Line}
-use Rattle.lines.specs.Reading.{isDecimal, isUpper, isLower, isDigit, digitOf, isPattern, valueFrom, valueOf, fresh, pushed, lineFrom, lineOf}
+use Rattle.lines.specs.Reading.{isDigit, digitOf, isPattern, valueFrom, fresh, pushed, lineFrom, lineOf}
 use Rattle.lines.specs.Lanes.{word, Lanewise, Joined, digitAt, digitsOf, fromDigits, lowValue, lowerCase}
-use Rattle.lines.specs.Printing.{glyph, patternText, printed, textOf, badLine, lineFeed}
+use Rattle.lines.specs.Printing.{glyph, patternText, printed, textOf, lineFeed}
 use Rattle.lines.specs.Blocks.{PatternAt, patternAt, ended, begun}
-use Rattle.lines.proofs.Digits.{Digit, Bounds, digits, digit-value, digit-small, bounds}
-use Rattle.lines.proofs.WordLaws.{row, word-as, word-upto, same-bytes, glyph-byte}
+use Rattle.lines.proofs.Digits.{Digit, digits, digit-value, digit-small, bounds}
+use Rattle.lines.proofs.WordLaws.{row, word-as, word-upto, same-bytes}
+use Rattle.lines.proofs.LaneLaws.{glyph-byte}
 use Rattle.lines.proofs.LineLaws.{digit-below, fed-printed}
 
 -- ---- a byte that is the letter of its own value is a digit

@@ -16,7 +16,7 @@ use Rattle.binary32.proofs.RoundTrips.{read-made}
 use Rattle.lines.specs.declared.Places.{Places}
 use Rattle.lines.specs.Lanes.{shownOf, shownByte}
 use Rattle.lines.specs.Printing.{Common, lastOf, eightDigits, fields, spaced, placesOf, answeredText, patternText, lineFeed}
-use Rattle.lines.proofs.WordLaws.{beside}
+use Rattle.lines.proofs.PatternDigits.{beside}
 use Rattle.lines.proofs.PatternPlaces.{ufp-normal, ulp-small, ulp-normal}
 use Rattle.lines.proofs.PatternNeighbours.{finite-made, above-plus, above-minus, below-plus, below-minus}
 

@@ -17,7 +17,7 @@ use Rattle.binary32.specs.Patterns.{patternRead}
 use Rattle.lines.specs.declared.Line.{Line}
 use Rattle.lines.specs.Lanes.{bytesOf, shownOf}
 use Rattle.lines.specs.Printing.{Put, eightDigits, fieldText, placesOf, answeredText, patternText, badLine, textOf, lineFeed}
-use Rattle.lines.proofs.WordLaws.{shown-bytes}
+use Rattle.lines.proofs.PatternDigits.{shown-bytes}
 
 pub sets-append : (l : List ℕ) (at : ℕ) (s t : List ℕ) → sets l at (s ++ t) ≡ sets (sets l at s) (at + length s) t
 sets-append l at [] t = rw add-zero

@@ -19,7 +19,8 @@ bytesOf (suc k) n = n % 256 ∷ bytesOf k (n / 256)
 abbrev pub Lanewise : (bound : ℕ) (g : ℕ → ℕ) (x r : ℕ) → Type 0
 Lanewise bound g x r = (f : ℕ → ℕ) → ((i : ℕ) → f i < bound) → x ≡ word 8 f → r ≡ word 8 (λ i. g (f i))
 
--- the hexadecimal digits of a pattern, the highest first
+-- ---- the digits of a pattern
+-- hexadecimal, the highest first
 abbrev pub digitAt : (pattern i : ℕ) → ℕ
 digitAt n i = n / 16 ^ (7 - i) % 16
 

@@ -44,7 +44,7 @@ pub fn minus_of(digits: u64) -> u32
     (digits / 8 % 2) as u32
 }
 
-// The field.
+// The field of the pattern.
 pub fn field_of(digits: u64) -> u32
     requires { ⌜ digits ≤ 0x0f0f_0f0f_0f0f_0f0f ⌝ }
     ensures { λ r. ⌜ (r < 256) × OfPattern (λ n. n % 2 ^ 31 / 2 ^ 23) digits r ⌝ }
@@ -53,7 +53,7 @@ pub fn field_of(digits: u64) -> u32
     (pairs % 128 * 2 + pairs / 8388608 % 2) as u32
 }
 
-// The last byte.
+// The last byte of the pattern.
 pub fn low_of(digits: u64) -> u32
     requires { ⌜ digits ≤ 0x0f0f_0f0f_0f0f_0f0f ⌝ }
     ensures { λ r. ⌜ (r < 256) × OfPattern (λ n. n % 256) digits r ⌝ }
@@ -77,7 +77,7 @@ pub fn letters_of(pattern: u32) -> u64
     letters(digits_of(pattern))
 }
 
-// The letters of two bytes, four in all.
+// The letters of two bytes, the first two lowest.
 pub fn letters_of_bytes(first: u32, second: u32) -> u64
     requires { ⌜ (first < 256) × (second < 256) ⌝ }
     ensures { λ r. ⌜ (r % 65536 ≡ shownByte first) × (r / 65536 % 65536 ≡ shownByte second) ⌝ }
@@ -87,7 +87,7 @@ pub fn letters_of_bytes(first: u32, second: u32) -> u64
     letters(a / 16 + a % 16 * 256 + b / 16 * 65536 + b % 16 * 16777216)
 }
 
-// A byte.
+// A byte as a word.
 fn wide(b: u8) -> u64
     ensures { λ r. ⌜ (r ≡ b) × (r < 256) ⌝ }
 {

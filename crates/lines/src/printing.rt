@@ -102,7 +102,7 @@ fn last_letters(field: u32) -> u64
     letters_of((field - 23) * 8388608)
 }
 
-// Is the pattern common that has these digits?
+// Have these digits a common pattern: a normal number with a field up to 253, whose last byte is neither 00 nor ff?
 pub fn is_common(digits: u64) -> bool
     requires { ⌜ digits ≤ 0x0f0f_0f0f_0f0f_0f0f ⌝ }
     ensures { λ r. ⌜ (r ≡ true → CommonDigits digits) ⌝ }
@@ -115,8 +115,8 @@ pub fn is_common(digits: u64) -> bool
     2 <= low
 }
 
-// The line for a common pattern whose digits are at hand: those of its ufp are among them, and its neighbours have the same but
-// for the last two.
+// The line for a common pattern, from its digits: those of its ufp are among them, and its neighbours have the same but for the
+// last two. The contract alone names the pattern.
 pub fn put_common(out: &mut [u8], at: usize, pattern: u32, digits: u64) -> usize
     requires { ⌜ (at + 45 ≤ length (now out)) × (digits ≡ digitsOf pattern) × Common pattern ⌝ }
     ensures { λ r. ⌜ Put at (patternText pattern ++ lineFeed) (now (out .entry)) r (now (out .exit)) ⌝ }

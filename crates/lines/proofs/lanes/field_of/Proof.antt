@@ -1,6 +1,6 @@
 -- `lines::lanes::field_of` meets its contract.
 use borrow.Author.Needs.{needs}
-use Rattle.lines.proofs.WordLaws.{field-is}
+use Rattle.lines.proofs.PatternDigits.{field-is}
 use Rattle.lines.proofs.lanes.field_of.Statement.{statement}
 use Rattle.lines.proofs.lanes.field_of.Tie as tie
 

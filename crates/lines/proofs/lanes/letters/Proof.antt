@@ -3,7 +3,7 @@ use borrow.Author.Needs.{needs}
 use native.Mathlib.Omega.{arith}
 use lib.Bits.{and-le-r}
 use Prim.Native.Nat.{_+_, _/_}
-use Rattle.lines.proofs.WordLaws.{letter-lanes}
+use Rattle.lines.proofs.LaneLaws.{letter-lanes}
 use Rattle.lines.proofs.lanes.letters.Statement.{statement}
 use Rattle.lines.proofs.lanes.letters.Tie as tie
 

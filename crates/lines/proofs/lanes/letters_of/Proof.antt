@@ -1,7 +1,7 @@
 -- `lines::lanes::letters_of` meets its contract.
 use borrow.Author.Needs.{needs}
 use native.Mathlib.Omega.{arith}
-use Rattle.lines.proofs.WordLaws.{digits-small, digits-shown}
+use Rattle.lines.proofs.PatternDigits.{digits-small, digits-shown}
 use Rattle.lines.proofs.lanes.letters_of.Statement.{statement}
 use Rattle.lines.proofs.lanes.letters_of.Tie as tie
 

@@ -1,6 +1,6 @@
 -- `lines::lanes::letters_of_bytes` meets its contract.
 use borrow.Author.Needs.{needs}
-use Rattle.lines.proofs.WordLaws.{first-shown, second-shown}
+use Rattle.lines.proofs.PatternDigits.{first-shown, second-shown}
 use Rattle.lines.proofs.lanes.letters_of_bytes.Statement.{statement}
 use Rattle.lines.proofs.lanes.letters_of_bytes.Tie as tie
 

@@ -1,6 +1,6 @@
 -- `lines::lanes::low_of` meets its contract.
 use borrow.Author.Needs.{needs}
-use Rattle.lines.proofs.WordLaws.{low-is}
+use Rattle.lines.proofs.PatternDigits.{low-is}
 use Rattle.lines.proofs.lanes.low_of.Statement.{statement}
 use Rattle.lines.proofs.lanes.low_of.Tie as tie
 

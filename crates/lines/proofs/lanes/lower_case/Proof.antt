@@ -2,7 +2,7 @@
 use native.Mathlib.Omega.{arith}
 use lib.Bits.{and-le-r}
 use Prim.Native.Nat.{_/_}
-use Rattle.lines.proofs.WordLaws.{lower-lanes}
+use Rattle.lines.proofs.LaneLaws.{lower-lanes}
 use Rattle.lines.proofs.lanes.lower_case.Statement.{statement}
 use Rattle.lines.proofs.lanes.lower_case.Tie as tie
 

@@ -1,6 +1,6 @@
 -- `lines::lanes::minus_of` meets its contract.
 use borrow.Author.Needs.{needs}
-use Rattle.lines.proofs.WordLaws.{minus-is}
+use Rattle.lines.proofs.PatternDigits.{minus-is}
 use Rattle.lines.proofs.lanes.minus_of.Statement.{statement}
 use Rattle.lines.proofs.lanes.minus_of.Tie as tie
 

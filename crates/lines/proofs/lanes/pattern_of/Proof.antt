@@ -1,6 +1,6 @@
 -- `lines::lanes::pattern_of` meets its contract.
 use borrow.Author.Needs.{needs}
-use Rattle.lines.proofs.WordLaws.{joined-pairs}
+use Rattle.lines.proofs.PatternDigits.{joined-pairs}
 use Rattle.lines.proofs.lanes.pattern_of.Statement.{statement}
 use Rattle.lines.proofs.lanes.pattern_of.Tie as tie
 

@@ -2,7 +2,7 @@
 use native.Mathlib.Omega.{arith}
 use lib.Bits.{bitAnd, and-le-r}
 use Prim.Native.Nat.{_+_, _*_, _/_}
-use Rattle.lines.proofs.WordLaws.{value-lanes}
+use Rattle.lines.proofs.LaneLaws.{value-lanes}
 use Rattle.lines.proofs.lanes.values.Statement.{statement}
 use Rattle.lines.proofs.lanes.values.Tie as tie
 

@@ -1,16 +1,23 @@
 -- `lines::printing::put_common` meets its contract.
 use borrow.Author.Needs.{needs}
-use Prim.Native.Nat.{ℕ, _+_, _*_, _-_, _/_, _%_, _^_, _≤_, _<_}
+use Prim.Native.Nat.{ℕ, _+_, _*_, _-_, _/_, _%_, _^_}
 use mathlib.Core.Path.{_≡_, ap, ap₂, _∙_}
 use native.Mathlib.Omega.{arith}
 use lib.Bits.{bitAnd, and-le-r}
 use Rattle.lines.specs.Lanes.{shownOf, shownByte}
 use Rattle.lines.specs.Printing.{lastOf}
-use Rattle.lines.proofs.WordLaws.{digits-small, digits-shown, field-digits}
+use Rattle.lines.proofs.PatternDigits.{digits-small, digits-shown, field-digits}
 use Rattle.lines.proofs.Stores.{put-after, put-as, put-shown}
 use Rattle.lines.proofs.PatternText.{common-text, below-shown, above-shown}
 use Rattle.lines.proofs.printing.put_common.Statement.{statement}
 use Rattle.lines.proofs.printing.put_common.Tie as tie
+
+abbrev start : tie.After-letters → tie.Start
+start c = c .before .before .before .before .before
+
+-- the place after `letters` from the place before the field
+abbrev lettered : tie.After-put-word-arg3 → tie.After-letters
+lettered c = c .before .before .before .before .before .before .before .before .before .before
 
 -- what the digits tell of the pattern
 low-byte : (c : tie.After-low-of) → c .low-of .result ≡ c .before .before .args .pattern % 256
@@ -19,11 +26,11 @@ low-byte c = let s = c .before .before in c .low-of .ensures .1 (s .args .patter
 sign : (c : tie.After-minus-of) → c .minus-of .result ≡ c .before .before .before .args .pattern / 2 ^ 31
 sign c = let s = c .before .before .before in c .minus-of .ensures .1 (s .args .pattern) (s .fits .pattern .fits) (s .pre .1)
 
-field : (c : tie.After-field-of) → let s = c .before .before .before .before .before .before .before .before .before .before .before .before .before .before .before .before in c .field-of .result ≡ s .args .pattern % 2 ^ 31 / 2 ^ 23
-field c = let s = c .before .before .before .before .before .before .before .before .before .before .before .before .before .before .before .before in c .field-of .ensures .1 (s .args .pattern) (s .fits .pattern .fits) (s .pre .1)
+field : (c : tie.After-field-of) → c .field-of .result ≡ start (lettered (c .before)) .args .pattern % 2 ^ 31 / 2 ^ 23
+field c = let s = start (lettered (c .before)) in c .field-of .ensures .1 (s .args .pattern) (s .fits .pattern .fits) (s .pre .1)
 
-own : (c : tie.After-letters) → c .letters .result ≡ shownOf (c .before .before .before .before .before .args .pattern)
-own c = let s = c .before .before .before .before .before in digits-shown (s .args .pattern) (c .letters .ensures) (s .pre .1)
+own : (c : tie.After-letters) → c .letters .result ≡ shownOf (start c .args .pattern)
+own c = let s = start c in digits-shown (s .args .pattern) (c .letters .ensures) (s .pre .1)
 
 low-of-requires : tie.Need-low-of-requires
 low-of-requires c κs = let s = c .before in omega (arith, digits-small (s .args .pattern), s .pre .1)
@@ -59,16 +66,16 @@ put-word-requires : tie.Need-put-word-requires
 put-word-requires c κs = search needs
 
 letters-requires-2 : tie.Need-letters-requires-2
-letters-requires-2 c κs = omega (arith, and-le-r (c .before .before .before .before .before .before .before .before .before .before .args .digits) 0x0008_0f07)
+letters-requires-2 c κs = omega (arith, and-le-r (start (c .before .before .before .before .before) .args .digits) 0x0008_0f07)
 
 put-word-requires-2 : tie.Need-put-word-requires-2
 put-word-requires-2 c κs = search needs
 
 field-of-requires : tie.Need-field-of-requires
-field-of-requires c κs = let s = c .before .before .before .before .before .before .before .before .before .before .before .before .before .before .before in omega (arith, digits-small (s .args .pattern), s .pre .1)
+field-of-requires c κs = let s = start (lettered c) in omega (arith, digits-small (s .args .pattern), s .pre .1)
 
 last-letters-requires : tie.Need-last-letters-requires
-last-letters-requires c κs = let h = c .before .before .before .before .before .before .before .before .before .before .before .before .before .before .before .before .pre .2 in omega (arith, field c, h .least, h .most)
+last-letters-requires c κs = let h = start (lettered (c .before)) .pre .2 in omega (arith, field c, h .least, h .most)
 
 put-word-requires-3 : tie.Need-put-word-requires-3
 put-word-requires-3 c κs = search needs
