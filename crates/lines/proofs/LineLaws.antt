@@ -19,7 +19,7 @@ use Rattle.lines.specs.Reading.{isDigit, digitOf, isPattern, valueFrom, 
 use Rattle.lines.specs.Printing.{patternText, printed, textOf, badLine}
 use Rattle.lines.proofs.Digits.{digits, digit-value, digit-small}
 
-digit-below : (b : ℕ) → isDigit b ≡ true → digitOf b < 16
+pub digit-below : (b : ℕ) → isDigit b ≡ true → digitOf b < 16
 digit-below b h = let d = digits b h in omega (arith, digit-value d, digit-small d)
 
 -- ---- one byte

@@ -50,7 +50,7 @@ most n h = by (signOf n)
     by true = omega (arith, finite-field n h, minus-parts (n % 2 ^ 31))
 
 -- a pattern up to it is finite
-finite-made : (n : ℕ) → n % 2 ^ 31 ≤ 2139095039 → finite n ≡ true
+pub finite-made : (n : ℕ) → n % 2 ^ 31 ≤ 2139095039 → finite n ≡ true
 unfolding finite
 finite-made n h = rw (ne-eqb (fieldOf n) 255 (λ e. omega arith))
 

@@ -1,9 +1,10 @@
 -- Texts stored one after the other.
 use Prim.Native.Nat.{ℕ, suc, _+_, _≤_}
-use mathlib.Core.Path.{_≡_, sym, ap, _∙_}
+use mathlib.Core.Path.{_≡_, refl, sym, ap, _∙_}
 use mathlib.Core.Bool.{Bool, true, false, cond}
 use mathlib.Core.List.{List, [], _∷_, _++_}
-use native.Mathlib.Nat.{add-zero}
+use native.Mathlib.Nat.{add-zero, add-suc}
+use native.Mathlib.Numerals.{add-one}
 use native.Mathlib.Omega.{arith}
 use lib.Dec.{eqb}
 use lib.ListN.{length, set, length-append}
@@ -14,7 +15,9 @@ use Rattle.binary32.specs.declared.Pattern.{Pattern}
 use Rattle.binary32.specs.declared.Pattern.the-variants.{Written, Refused}
 use Rattle.binary32.specs.Patterns.{patternRead}
 use Rattle.lines.specs.declared.Line.{Line}
-use Rattle.lines.specs.Printing.{Put, fieldText, placesOf, answeredText, patternText, badLine, textOf, lineFeed}
+use Rattle.lines.specs.Lanes.{bytesOf, shownOf}
+use Rattle.lines.specs.Printing.{Put, eightDigits, fieldText, placesOf, answeredText, patternText, badLine, textOf, lineFeed}
+use Rattle.lines.proofs.PatternDigits.{shown-bytes}
 
 pub sets-append : (l : List ℕ) (at : ℕ) (s t : List ℕ) → sets l at (s ++ t) ≡ sets (sets l at s) (at + length s) t
 sets-append l at [] t = rw add-zero
@@ -37,6 +40,23 @@ put-length {at} {next} {text} {before} p = ap length (p .holds) ∙ length-sets 
 pub put-as : {at next : ℕ} {s t before after : List ℕ} → s ≡ t → Put at s before next after → Put at t before next after
 put-as e p = rw (sym e) p
 
+-- ---- stores one after the other
+-- at `at + k`, `at + (k + 1)`, ..
+abbrev pub setsFrom : List ℕ → (at k : ℕ) → List ℕ → List ℕ
+setsFrom l at k [] = l
+setsFrom l at k (a ∷ s) = setsFrom (set l (at + k) a) at (suc k) s
+
+sets-from : (l : List ℕ) (at k : ℕ) (s : List ℕ) → setsFrom l at k s ≡ sets l (at + k) s
+sets-from l at k [] = refl
+sets-from l at k (a ∷ s) = sets-from (set l (at + k) a) at (suc k) s ∙ ap (λ (n : ℕ). sets (set l (at + k) a) n s) (add-suc at k)
+
+pub sets-stored : (l : List ℕ) (at a : ℕ) (s : List ℕ) → setsFrom (set l at a) at 1 s ≡ sets l at (a ∷ s)
+sets-stored l at a s = sets-from (set l at a) at 1 s ∙ ap (λ (n : ℕ). sets (set l at a) n s) (add-one at)
+
+-- ---- the letters of a pattern
+pub put-shown : {at next w end : ℕ} {before after : List ℕ} (n : ℕ) → w ≡ shownOf n → Put at (bytesOf 8 w ++ end ∷ []) before next after → Put at (eightDigits n ++ end ∷ []) before next after
+put-shown {end = end} n e p = put-as (ap (λ (bs : List ℕ). bs ++ end ∷ []) (ap (bytesOf 8) e ∙ shown-bytes n)) p
+
 -- ---- the longest texts
 field-length : (p : Pattern) → length (fieldText p) ≤ 8
 field-length (Written n) = omega arith
@@ -57,6 +77,10 @@ text-length l = by (eqb (l .count) 8)
     by : (t : Bool) → length (cond t (answeredText (l .value) (patternRead (l .value))) badLine) ≤ 44
     by true = answered-length (l .value) (patternRead (l .value))
     by false = omega arith
+
+pub pattern-room : (n : ℕ) → length (patternText n ++ lineFeed) ≤ 45
+unfolding patternText
+pattern-room n = omega (arith, length-append (patternText n) lineFeed, answered-length n (patternRead n))
 
 pub text-room : (l : Line) → length (textOf l ++ lineFeed) ≤ 45
 text-room l = omega (arith, length-append (textOf l) lineFeed, text-length l)

@@ -1,14 +1,15 @@
 -- Input as lines, and input that comes in blocks.
-use Prim.Native.Nat.{ℕ}
+use Prim.Native.Nat.{ℕ, _+_, _≤_, _<_}
 use mathlib.Core.Path.{_≡_}
-use mathlib.Core.Bool.{cond}
+use mathlib.Core.Bool.{cond, true}
 use mathlib.Core.List.{List, [], _∷_, _++_}
 use lib.Dec.{eqb, ltb}
-use lib.ListN.{length}
+use lib.ListN.{length, getD}
 use lib.Seq.{sets}
 use Rattle.lines.specs.declared.Line.{Line}
 use Rattle.lines.specs.declared.Block.{Block}
-use Rattle.lines.specs.Reading.{fresh, pushed}
+use Rattle.lines.specs.Reading.{isDigit, digitOf, fresh, pushed}
+use Rattle.lines.specs.Lanes.{fromDigits}
 use Rattle.lines.specs.Printing.{printed, textOf, lineFeed}
 
 -- ---- the whole input
@@ -44,6 +45,20 @@ begun l (b ∷ bs) = cond (eqb b 10) (begun fresh bs) (begun (pushed l b) bs)
 -- the bytes printed at the end of input
 unfoldable pub endText : Line → List ℕ
 endText l = cond (eqb (l .count) 0) [] (textOf l ++ lineFeed)
+
+-- ---- a line of eight digits that lies whole in a block
+pub record PatternAt (input : List ℕ) (i : ℕ) : Type 0 where
+  pub within : i + 9 ≤ length input
+  pub digits : (k : ℕ) → k < 8 → isDigit (getD input (i + k) 0) ≡ true
+  pub feed : getD input (i + 8) 0 ≡ 10
+
+-- no byte of it was read
+pub record PatternNext (l : Line) (input : List ℕ) (i : ℕ) : Type 0 where
+  pub line : l ≡ fresh
+  pub stands : PatternAt input i
+
+unfoldable pub patternAt : (input : List ℕ) (i : ℕ) → ℕ
+patternAt input i = fromDigits (λ k. digitOf (getD input (i + k) 0))
 
 -- ---- what the functions leave
 -- a slice too short for the longest line, of 45 bytes, stays as it is

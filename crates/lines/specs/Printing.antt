@@ -1,5 +1,5 @@
 -- The line that is printed for a line that was read.
-use Prim.Native.Nat.{ℕ, zero, suc, _+_, _/_, _%_, _^_}
+use Prim.Native.Nat.{ℕ, zero, suc, _+_, _*_, _-_, _/_, _%_, _^_, _≤_, _<_}
 use mathlib.Core.Path.{_≡_}
 use mathlib.Core.Bool.{cond}
 use mathlib.Core.List.{List, [], _∷_, _++_}
@@ -70,6 +70,17 @@ fieldText (pattern.Refused why) = dash
 
 abbrev pub fields : Places → List (List ℕ)
 fields q = fieldText (q .first) ∷ fieldText (q .last) ∷ fieldText (q .below) ∷ fieldText (q .above) ∷ []
+
+-- the pattern of a normal number with a field up to 253, whose neighbours have the same digits but for the last two
+pub record Common (n : ℕ) : Type 0 where
+  pub least : 2 ^ 23 ≤ n % 2 ^ 31
+  pub most : n % 2 ^ 31 < 254 * 2 ^ 23
+  pub low : 1 ≤ n % 256
+  pub high : n % 256 < 255
+
+-- the pattern of the ulp of a normal number, from its field: a small number up to place 22
+abbrev pub lastOf : (field : ℕ) → ℕ
+lastOf field = cond (ltb field 24) (2 ^ (field - 1)) ((field - 23) * 2 ^ 23)
 
 -- ---- the printed line, without its line feed
 -- for a pattern that was read so

@@ -1,15 +1,25 @@
 // Whole lines, and input that comes in blocks of any size: a line may begin in one block and end in another.
 use crate::Block;
 use crate::Line;
+use crate::lanes::letters;
+use crate::lanes::lower_case;
+use crate::lanes::pattern_of;
+use crate::lanes::values;
+use crate::lanes::word_at;
+use crate::printing::is_common;
+use crate::printing::put_common;
 use crate::printing::put_line;
+use crate::printing::put_pattern;
 use crate::reading::new_line;
 use crate::reading::push;
 use crate::reading::read_line;
 ghost use mathlib.Core.Path.{_≡_};
-ghost use Prim.Native.Nat.{_*_, _≤_};
+ghost use mathlib.Core.Bool.{true};
+ghost use mathlib.Core.List.{_++_};
+ghost use Prim.Native.Nat.{_+_, _*_, _≤_};
 ghost use lib.ListN.{length};
-ghost use Rattle.lines.specs.Printing.{Put};
-ghost use Rattle.lines.specs.Blocks.{Answered, answerLine, endText};
+ghost use Rattle.lines.specs.Printing.{Put, patternText, lineFeed};
+ghost use Rattle.lines.specs.Blocks.{Answered, PatternAt, PatternNext, answerLine, endText, patternAt};
 
 // The line that is printed for a line, with its line feed, at the start of `out`, and its length. A slice of fewer than 45
 // bytes stays as it is, and the length is 0.
@@ -22,6 +32,39 @@ pub fn answer_line(line: &[u8], out: &mut [u8]) -> usize
     put_line(out, 0, read_line(line))
 }
 
+// Is this the start of a line of eight digits that lies whole in the input? Digits are the letters of their own values.
+fn pattern_next(line: Line, input: &[u8], i: usize) -> bool
+    requires { ⌜ i ≤ length (now input) ⌝ }
+    ensures { λ r. ⌜ (r ≡ true → PatternNext line (now (input .entry)) i) ⌝ }
+{
+    if line.count != 0 {
+        return false;
+    }
+    if line.value != 0 {
+        return false;
+    }
+    if input.len() - i < 9 {
+        return false;
+    }
+    if input[i + 8] != 10 {
+        return false;
+    }
+    let text = word_at(input, i);
+    letters(values(text)) == lower_case(text)
+}
+
+// The line that is printed for such a line.
+fn answer_pattern(input: &[u8], i: usize, out: &mut [u8], at: usize) -> usize
+    requires { ⌜ (at + 45 ≤ length (now out)) × PatternAt (now input) i ⌝ }
+    ensures { λ r. ⌜ Put at (patternText (patternAt (now (input .entry)) i) ++ lineFeed) (now (out .entry)) r (now (out .exit)) ⌝ }
+{
+    let digits = values(word_at(input, i));
+    if is_common(digits) {
+        return put_common(out, at, pattern_of(digits), digits);
+    }
+    put_pattern(out, at, pattern_of(digits))
+}
+
 // A block of input: the lines that end in it are printed at the start of `out`.
 pub fn answer_block(first: Line, input: &[u8], out: &mut [u8]) -> Block
     requires { ⌜ 45 * length (now input) ≤ length (now out) ⌝ }
@@ -31,13 +74,18 @@ pub fn answer_block(first: Line, input: &[u8], out: &mut [u8]) -> Block
     let mut at = 0;
     let mut i = 0;
     while i < input.len() {
-        let b = input[i];
-        i += 1;
-        if b == 10 {
-            at = put_line(out, at, line);
-            line = new_line();
+        if pattern_next(line, input, i) {
+            at = answer_pattern(input, i, out, at);
+            i += 9;
         } else {
-            line = push(line, b);
+            let b = input[i];
+            i += 1;
+            if b == 10 {
+                at = put_line(out, at, line);
+                line = new_line();
+            } else {
+                line = push(line, b);
+            }
         }
     }
     Block {

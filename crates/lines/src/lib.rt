@@ -1,5 +1,6 @@
 // Lines of the places program: a line of eight hexadecimal digits is read, and its pattern with its places and neighbours printed.
 pub mod blocks;
+pub mod lanes;
 pub mod printing;
 pub mod reading;
 pub mod stream;

@@ -2,15 +2,23 @@
 // position after what it stored.
 use crate::Line;
 use crate::Places;
+use crate::lanes::field_of;
+use crate::lanes::letters;
+use crate::lanes::letters_of;
+use crate::lanes::letters_of_bytes;
+use crate::lanes::low_of;
+use crate::lanes::minus_of;
 use crate::units_of_pattern::places_of;
 use binary32::Pattern;
 use binary32::patterns::read_pattern;
 use number::Answer;
 ghost use mathlib.Core.Path.{_≡_};
+ghost use mathlib.Core.Bool.{true};
 ghost use mathlib.Core.List.{[], _∷_, _++_};
 ghost use Prim.Native.Nat.{_+_, _≤_, _<_};
 ghost use lib.ListN.{length};
-ghost use Rattle.lines.specs.Printing.{Put, glyph, eightDigits, fieldText, fields, spaced, patternText, textOf, lineFeed};
+ghost use Rattle.lines.specs.Lanes.{CommonDigits, bytesOf, digitsOf, shownOf};
+ghost use Rattle.lines.specs.Printing.{Put, Common, lastOf, fieldText, fields, spaced, patternText, textOf, lineFeed};
 
 // The bytes of a text.
 fn put_text(out: &mut [u8], at: usize, text: &[u8]) -> usize
@@ -25,32 +33,21 @@ fn put_text(out: &mut [u8], at: usize, text: &[u8]) -> usize
     at + i
 }
 
-// A digit in lower case.
-fn hex_digit(digit: u32) -> u8
-    requires { ⌜ digit < 16 ⌝ }
-    ensures { λ r. ⌜ r ≡ glyph digit ⌝ }
+// The eight bytes of a word, the lowest first, and the byte that ends them.
+fn put_word(out: &mut [u8], at: usize, word: u64, end: u8) -> usize
+    requires { ⌜ at + 9 ≤ length (now out) ⌝ }
+    ensures { λ r. ⌜ Put at (bytesOf 8 word ++ end ∷ []) (now (out .entry)) r (now (out .exit)) ⌝ }
 {
-    if digit < 10 {
-        return (digit + 48) as u8;
-    }
-    (digit + 87) as u8
-}
-
-// Eight digits and the byte that ends them.
-fn hex_text(pattern: u32, end: u8) -> [u8; 9]
-    ensures { λ r. ⌜ r ≡ eightDigits pattern ++ end ∷ [] ⌝ }
-{
-    [
-        hex_digit(pattern / 268435456 % 16),
-        hex_digit(pattern / 16777216 % 16),
-        hex_digit(pattern / 1048576 % 16),
-        hex_digit(pattern / 65536 % 16),
-        hex_digit(pattern / 4096 % 16),
-        hex_digit(pattern / 256 % 16),
-        hex_digit(pattern / 16 % 16),
-        hex_digit(pattern % 16),
-        end,
-    ]
+    out[at] = (word % 256) as u8;
+    out[at + 1] = (word / 256 % 256) as u8;
+    out[at + 2] = (word / 65536 % 256) as u8;
+    out[at + 3] = (word / 16777216 % 256) as u8;
+    out[at + 4] = (word / 4294967296 % 256) as u8;
+    out[at + 5] = (word / 1099511627776 % 256) as u8;
+    out[at + 6] = (word / 281474976710656 % 256) as u8;
+    out[at + 7] = (word / 72057594037927936 % 256) as u8;
+    out[at + 8] = end;
+    at + 9
 }
 
 // A pattern, or - where there is none, and the byte that ends it.
@@ -59,10 +56,7 @@ fn put_field(out: &mut [u8], at: usize, field: Pattern, end: u8) -> usize
     ensures { λ r. ⌜ Put at (fieldText field ++ end ∷ []) (now (out .entry)) r (now (out .exit)) ⌝ }
 {
     match field {
-        Pattern::Written(pattern) => {
-            let text = hex_text(pattern, end);
-            put_text(out, at, &text)
-        }
+        Pattern::Written(pattern) => put_word(out, at, letters_of(pattern), end),
         Pattern::Refused(_) => {
             let text = [45, end];
             put_text(out, at, &text)
@@ -86,7 +80,7 @@ fn put_places(out: &mut [u8], at: usize, places: Places) -> usize
 }
 
 // The line for a pattern.
-fn put_pattern(out: &mut [u8], at: usize, pattern: u32) -> usize
+pub fn put_pattern(out: &mut [u8], at: usize, pattern: u32) -> usize
     requires { ⌜ at + 45 ≤ length (now out) ⌝ }
     ensures { λ r. ⌜ Put at (patternText pattern ++ lineFeed) (now (out .entry)) r (now (out .exit)) ⌝ }
 {
@@ -95,6 +89,53 @@ fn put_pattern(out: &mut [u8], at: usize, pattern: u32) -> usize
         Answer::Refused(_) => put_text(out, next, b"refused 9\n"),
         Answer::Value(_) => put_places(out, next, places_of(pattern)),
     }
+}
+
+// The letters of the ulp of a normal number, from its field.
+fn last_letters(field: u32) -> u64
+    requires { ⌜ (1 ≤ field) × (field < 255) ⌝ }
+    ensures { λ r. ⌜ r ≡ shownOf (lastOf field) ⌝ }
+{
+    if field < 24 {
+        return letters_of(1 << (field - 1));
+    }
+    letters_of((field - 23) * 8388608)
+}
+
+// Have these digits a common pattern: a normal number with a field up to 253, whose last byte is neither 00 nor ff?
+pub fn is_common(digits: u64) -> bool
+    requires { ⌜ digits ≤ 0x0f0f_0f0f_0f0f_0f0f ⌝ }
+    ensures { λ r. ⌜ (r ≡ true → CommonDigits digits) ⌝ }
+{
+    let field = (field_of(digits) + 2) % 256;
+    let low = (low_of(digits) + 1) % 256;
+    if field < 3 {
+        return false;
+    }
+    2 <= low
+}
+
+// The line for a common pattern, from its digits: those of its ufp are among them, and its neighbours have the same but for the
+// last two. The contract alone names the pattern.
+pub fn put_common(out: &mut [u8], at: usize, pattern: u32, digits: u64) -> usize
+    requires { ⌜ (at + 45 ≤ length (now out)) × (digits ≡ digitsOf pattern) × Common pattern ⌝ }
+    ensures { λ r. ⌜ Put at (patternText pattern ++ lineFeed) (now (out .entry)) r (now (out .exit)) ⌝ }
+{
+    let low = low_of(digits);
+    let minus = minus_of(digits);
+    let beside = letters_of_bytes(low + minus * 2 - 1, low + 1 - minus * 2);
+    let shown = letters(digits);
+    let kept = shown % 281474976710656;
+    let second = put_word(out, at, shown, 32);
+    let third = put_word(out, second, letters(digits & 0x0008_0f07), 32);
+    let fourth = put_word(out, third, last_letters(field_of(digits)), 32);
+    let fifth = put_word(out, fourth, kept + beside % 65536 * 281474976710656, 32);
+    put_word(
+        out,
+        fifth,
+        kept + beside / 65536 % 65536 * 281474976710656,
+        10,
+    )
 }
 
 // The line for a line that was read.

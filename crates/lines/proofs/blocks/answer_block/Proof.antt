@@ -10,9 +10,10 @@ use lib.Seq.{sets, drop-cons, drop-length}
 use borrow.Author.Tests.{eq-eqb, ne-eqb}
 use Rattle.lines.specs.declared.Line.{Line}
 use Rattle.lines.specs.Reading.{fresh, pushed}
-use Rattle.lines.specs.Printing.{Put, textOf, lineFeed}
-use Rattle.lines.specs.Blocks.{Answered, ended, begun}
-use Rattle.lines.proofs.Stores.{sets-append, put-length, text-room}
+use Rattle.lines.specs.Printing.{Put, patternText, textOf, lineFeed}
+use Rattle.lines.specs.Blocks.{Answered, PatternAt, patternAt, ended, begun}
+use Rattle.lines.proofs.Stores.{sets-append, put-length, pattern-room, text-room}
+use Rattle.lines.proofs.PatternLines.{pattern-ended, pattern-begun}
 use Rattle.lines.proofs.blocks.answer_block.Statement.{statement}
 use Rattle.lines.proofs.blocks.answer_block.Tie as tie
 
@@ -77,6 +78,22 @@ module _ {first line : Line} {input before out : List ℕ} {i at : ℕ} (g : Goi
           begins = sym (ap (begun line) rest ∙ begun-byte line _ _ e) ∙ g .begins;
         }
 
+  -- a line of eight digits that lies whole in the block
+  pattern-answered : {next : ℕ} {after : List ℕ} → line ≡ fresh → PatternAt input i → Put at (patternText (patternAt input i) ++ lineFeed) out next after → Going first input before (i + 9) line next after
+  pattern-answered {next} {after} f s p =
+      let text = patternText (patternAt input i) ++ lineFeed in
+      let later = ended fresh (drop (i + 9) input) in
+      let left : ended line (drop i input) ≡ text ++ later = rw f (pattern-ended input i s) in
+      rw f
+      (record {
+        within = s .within;
+        room = omega (arith, p .ends, pattern-room (patternAt input i), g .room);
+        same = put-length p ∙ g .same;
+        holds = rw (p .holds, p .ends) (sym (sets-append out at text later) ∙ ap (sets out at) (sym left) ∙ g .holds);
+        counts = omega (arith, p .ends, g .counts, ap length left, length-append text later);
+        begins = sym (ap (λ (l : Line). begun l (drop i input)) f ∙ pattern-begun input i s) ∙ g .begins;
+      })
+
   ends : i ≡ length input → Answered first input before (record { line = line; printed = at }) out
   unfolding ended begun
   ends e =
@@ -96,39 +113,62 @@ abbrev μ-loop : tie.MeasureT-loop
 loop-holds : tie.Need-loop-holds Inv-loop μ-loop
 loop-holds c = starts _ _ _
 
-shared-slice-read-b : tie.Need-shared-slice-read-b Inv-loop μ-loop
-shared-slice-read-b c = search needs
+pattern-next-requires : tie.Need-pattern-next-requires Inv-loop μ-loop
+pattern-next-requires c κs = c .before .loop .inv .within
+
+answer-pattern-requires : tie.Need-answer-pattern-requires Inv-loop μ-loop
+answer-pattern-requires c κs =
+    let n = c .before .before in
+    let l = n .before .before in
+    (omega (arith, l .loop .inv .room, l .loop .inv .same), n .pattern-next .ensures (c .before .if1 .taken) .stands)
 
 add-i : tie.Need-add-i Inv-loop μ-loop
 add-i c = search needs
-
-put-line-requires : tie.Need-put-line-requires Inv-loop μ-loop
-put-line-requires c κs = let l = c .before .before .before .before in omega (arith, l .loop .inv .room, l .loop .inv .same)
-
-new-line-requires : tie.Need-new-line-requires Inv-loop μ-loop
-new-line-requires c κs = search needs
 
 loop-less : tie.Need-loop-less Inv-loop μ-loop
 loop-less c = search needs
 
 loop-again : tie.Need-loop-again Inv-loop μ-loop
 loop-again c =
-    let p = c .before .before .before in
+    let p = c .before .before in
     let t = p .before .before in
-    let l = t .before .before in
-    rw (c .new-line .ensures) (line-ends (l .before .loop .inv) (l .loop-test .taken) (t .if1 .taken) (p .put-line .ensures))
+    let n = t .before in
+    let next = n .pattern-next .ensures (t .if1 .taken) in
+    pattern-answered (n .before .before .loop .inv) (next .line) (next .stands) (p .answer-pattern .ensures)
 
-push-requires : tie.Need-push-requires Inv-loop μ-loop
-push-requires c κs = search needs
+shared-slice-read-b : tie.Need-shared-slice-read-b Inv-loop μ-loop
+shared-slice-read-b c = search needs
+
+add-i-2 : tie.Need-add-i-2 Inv-loop μ-loop
+add-i-2 c = search needs
+
+put-line-requires : tie.Need-put-line-requires Inv-loop μ-loop
+put-line-requires c κs = let l = c .before .before .before .before .before .before in omega (arith, l .loop .inv .room, l .loop .inv .same)
+
+new-line-requires : tie.Need-new-line-requires Inv-loop μ-loop
+new-line-requires c κs = search needs
 
 loop-less-2 : tie.Need-loop-less-2 Inv-loop μ-loop
 loop-less-2 c = search needs
 
 loop-again-2 : tie.Need-loop-again-2 Inv-loop μ-loop
 loop-again-2 c =
+    let p = c .before .before .before in
+    let t = p .before .before in
+    let l = t .before .before .before .before in
+    rw (c .new-line .ensures) (line-ends (l .before .loop .inv) (l .loop-test .taken) (t .if2 .taken) (p .put-line .ensures))
+
+push-requires : tie.Need-push-requires Inv-loop μ-loop
+push-requires c κs = search needs
+
+loop-less-3 : tie.Need-loop-less-3 Inv-loop μ-loop
+loop-less-3 c = search needs
+
+loop-again-3 : tie.Need-loop-again-3 Inv-loop μ-loop
+loop-again-3 c =
     let e = c .before in
-    let l = e .before .before in
-    rw (c .push .ensures) (byte-fed (l .before .loop .inv) (l .loop-test .taken) (e .if1 .left))
+    let l = e .before .before .before .before in
+    rw (c .push .ensures) (byte-fed (l .before .loop .inv) (l .loop-test .taken) (e .if2 .left))
 
 same-length : tie.Need-same-length Inv-loop μ-loop
 same-length c = c .before .loop .inv .same
@@ -143,14 +183,19 @@ answer-block-spec =
     Inv-loop
     μ-loop
     loop-holds
-    shared-slice-read-b
+    pattern-next-requires
+    answer-pattern-requires
     add-i
-    put-line-requires
-    new-line-requires
     loop-less
     loop-again
-    push-requires
+    shared-slice-read-b
+    add-i-2
+    put-line-requires
+    new-line-requires
     loop-less-2
     loop-again-2
+    push-requires
+    loop-less-3
+    loop-again-3
     same-length
     returns)

@@ -1,0 +1,80 @@
+-- `lines::blocks::pattern_next` meets its contract.
+use borrow.Author.Needs.{needs}
+use mathlib.Core.Path.{sym}
+use native.Mathlib.Omega.{arith}
+use borrow.Author.Tests.{eqb-true}
+use Rattle.theory.proofs.Tests.{never}
+use Rattle.lines.proofs.PatternLines.{digits-known}
+use Rattle.lines.proofs.blocks.pattern_next.Statement.{statement}
+use Rattle.lines.proofs.blocks.pattern_next.Tie as tie
+
+returns : tie.Need-returns
+returns c = λ e. absurd (never (sym e))
+
+returns-2 : tie.Need-returns-2
+returns-2 c = λ e. absurd (never (sym e))
+
+sub-if3 : tie.Need-sub-if3
+sub-if3 c = search needs
+
+returns-3 : tie.Need-returns-3
+returns-3 c = λ e. absurd (never (sym e))
+
+add-if4 : tie.Need-add-if4
+add-if4 c = search needs
+
+shared-slice-read-if4 : tie.Need-shared-slice-read-if4
+shared-slice-read-if4 c = search needs
+
+returns-4 : tie.Need-returns-4
+returns-4 c = λ e. absurd (never (sym e))
+
+word-at-requires : tie.Need-word-at-requires
+word-at-requires c κs = search needs
+
+values-requires : tie.Need-values-requires
+values-requires c κs = search needs
+
+letters-requires : tie.Need-letters-requires
+letters-requires c κs = search needs
+
+lower-case-requires : tie.Need-lower-case-requires
+lower-case-requires c κs = search needs
+
+returns-5 : tie.Need-returns-5
+returns-5 c =
+    let l = c .before in
+    let v = l .before in
+    let w = v .before in
+    let e4 = w .before in
+    let k = e4 .before in
+    let e3 = k .before in
+    let e2 = e3 .before in
+    let e1 = e2 .before .before in
+    let s = e1 .before .before .before in
+    λ e.
+    record {
+      line = λ j. record { count = e1 .if1 .left j; value = e2 .if2 .left j };
+      stands = record {
+        within = omega (arith, e3 .if3 .left, s .pre);
+        digits = digits-known (s .args .input .now) (s .args .i) (λ n. k .shared-slice-known2 .given n .fits) (w .word-at .ensures) (v .values .ensures .1) (l .letters .ensures) (c .lower-case .ensures) (eqb-true _ _ e);
+        feed = e4 .if4 .left;
+      };
+    }
+
+pub pattern-next-spec : {M : Type 1} → statement M
+pattern-next-spec =
+    tie.close
+    (tie.spec
+    returns
+    returns-2
+    sub-if3
+    returns-3
+    add-if4
+    shared-slice-read-if4
+    returns-4
+    word-at-requires
+    values-requires
+    letters-requires
+    lower-case-requires
+    returns-5)
