@@ -1,4 +1,5 @@
-/* Runs whole programs: a million lines of random patterns from a file, the output to /dev/null. */
+/* Runs whole programs: places on a million lines of random patterns from a file, and cat on that file and on what places prints, the
+ * output to /dev/null. */
 #define _POSIX_C_SOURCE 200809L
 #include "programs.h"
 
@@ -13,7 +14,18 @@
 
 enum { LINES = 1000000, RUNS = 15 };
 
-static const char lines_path[] = "target/bench/lines";
+static const char lines_path[] = "target/bench/lines", printed_path[] = "target/bench/printed";
+
+typedef struct job {
+    const char *name, *program, *input;
+} job;
+
+static const job jobs[] = {
+    {"places", "target/bin/places", lines_path},
+    {"cat of its input", "cat", lines_path},
+    {"cat of its output", "cat", printed_path},
+};
+enum { JOBS = sizeof jobs / sizeof *jobs };
 
 static int write_lines(void) {
     FILE *file = fopen(lines_path, "w");
@@ -24,42 +36,44 @@ static int write_lines(void) {
     return fclose(file) == 0;
 }
 
-static void become(const char *program) {
-    int in = open(lines_path, O_RDONLY), out = open("/dev/null", O_WRONLY);
+static void become(const job *what, const char *output) {
+    int in = open(what->input, O_RDONLY), out = open(output, O_WRONLY | O_CREAT | O_TRUNC, 0644);
     if (in < 0 || out < 0 || dup2(in, 0) < 0 || dup2(out, 1) < 0)
         _exit(126);
-    execlp(program, program, (char *)0);
+    execlp(what->program, what->program, (char *)0);
     _exit(127);
 }
 
 /* One run in nanoseconds, or a negative number. */
-static double run(const char *program) {
+static double run(const job *what, const char *output) {
     int status = 0;
     double start = now_ns();
     pid_t child = fork();
     if (child == 0)
-        become(program);
+        become(what, output);
     if (child < 0 || waitpid(child, &status, 0) != child || status != 0)
         return -1;
     return now_ns() - start;
 }
 
 int time_programs(void) {
-    static const char *const programs[2] = {"target/bin/places", "cat"};
-    double times[2][RUNS];
-    if (!write_lines())
+    double times[JOBS][RUNS];
+    timed results[JOBS];
+    if (!write_lines() || run(&jobs[0], printed_path) < 0)
         return 0;
     for (int r = 0; r < RUNS; r++) {
-        for (int p = 0; p < 2; p++) {
-            times[p][r] = run(programs[p]);
-            if (times[p][r] < 0)
+        for (int j = 0; j < JOBS; j++) {
+            times[j][r] = run(&jobs[j], "/dev/null");
+            if (times[j][r] < 0)
                 return 0;
         }
     }
-    printf("\n| program, a million lines | ms | median | ns a line |\n|---|---|---|---|\n");
-    timed ours = summary(times[0], RUNS), theirs = summary(times[1], RUNS);
-    printf("| places | %.1f | %.1f | %.1f |\n", ours.best / 1e6, ours.median / 1e6, ours.best / LINES);
-    printf("| cat | %.1f | %.1f | %.1f |\n", theirs.best / 1e6, theirs.median / 1e6, theirs.best / LINES);
-    printf("\nplaces / cat: %.1f\n", ours.best / theirs.best);
+    printf("\n| a million lines | ms | median | ns a line |\n|---|---|---|---|\n");
+    for (int j = 0; j < JOBS; j++) {
+        results[j] = summary(times[j], RUNS);
+        printf("| %s | %.1f | %.1f | %.1f |\n", jobs[j].name, results[j].best / 1e6, results[j].median / 1e6, results[j].best / LINES);
+    }
+    printf("\nplaces / cat of its input: %.1f, of its output: %.1f\n", results[0].best / results[1].best,
+           results[0].best / results[2].best);
     return 1;
 }
