@@ -8,6 +8,7 @@ pub mod Wide
 pub mod Canonical
 pub mod Neighbours
 pub mod Units
+pub mod LeastPlace
 -- the rounding of a magnitude
 pub mod Round
 pub mod Ties

@@ -10,7 +10,8 @@ use lib.IntN.{pos}
 use Rattle.theory.specs.Wide.{Wide}
 use Rattle.theory.specs.Units.{ufp, ulp, uls, zeros}
 use Rattle.theory.proofs.Wide.{wide-zero, wide-pow}
-use Rattle.theory.proofs.Units.{ufp-le, ufp-wide, ulp-le, ulp-wide, uls-multiple}
+use Rattle.theory.proofs.Units.{ufp-le, ufp-wide, ulp-le, ulp-wide}
+use Rattle.theory.proofs.LeastPlace.{uls-multiple}
 use Rattle.format.specs.declared.Format.{Format}
 use Rattle.format.proofs.Formats.{Admitted, positional}
 use Rattle.number.specs.declared.Number.{Number}

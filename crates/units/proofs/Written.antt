@@ -12,7 +12,8 @@ use Rattle.theory.specs.Signed.{signed}
 use Rattle.theory.specs.Units.{ufp, ulp, uls, zeros}
 use Rattle.theory.specs.Neighbours.{lower, upper}
 use Rattle.theory.proofs.Powers.{pow-mono}
-use Rattle.theory.proofs.Units.{ufp-shift, ulp-canonical, uls-shift, zeros-found}
+use Rattle.theory.proofs.Units.{ufp-shift, ulp-canonical}
+use Rattle.theory.proofs.LeastPlace.{uls-shift, zeros-found}
 use Rattle.format.specs.declared.Format.{Format}
 use Rattle.format.specs.Formats.{highestPlace}
 use Rattle.format.proofs.Formats.{Admitted, positional}

@@ -7,7 +7,7 @@ use native.Mathlib.Omega.{arith}
 use Rattle.theory.specs.Units.{zeros}
 use Rattle.theory.proofs.Powers.{pow-pos, below-pow}
 use Rattle.theory.proofs.Multiples.{Multiple, multiple-mod, multiple-cancel}
-use Rattle.theory.proofs.Units.{Ends, ends-zeros}
+use Rattle.theory.proofs.LeastPlace.{Ends, ends-zeros}
 use Rattle.units.proofs.powers_of_base.trailing_zeros.Statement.{statement}
 use Rattle.units.proofs.powers_of_base.trailing_zeros.Tie as tie
 
