@@ -1,2 +1,3 @@
--- What a line of the vectors means: its words, its numerals, the call that it names and whether its answer is the line's; and the lines of an input, counted.
+-- What a line of the vectors means: its words and its numerals.
 pub mod Words
+pub mod Numerals
