@@ -1,3 +1,4 @@
--- Laws of words and of numerals.
+-- Laws of words, of numerals and of lines.
 pub mod WordLaws
 pub mod NumeralLaws
+pub mod PatternLineLaws

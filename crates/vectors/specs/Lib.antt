@@ -1,3 +1,5 @@
--- What a line of the vectors means: its words and its numerals.
+-- What a line of the vectors means: its words, its numerals, the call that it names and whether its answer is the line's.
 pub mod Words
+pub mod Names
 pub mod Numerals
+pub mod PatternLines

@@ -4,6 +4,7 @@ use mathlib.Core.Bool.{Bool, true, false, cond}
 use mathlib.Core.List.{List, [], _∷_}
 use lib.Dec.{eqb, leb, ltb}
 use lib.ListN.{length}
+use lib.IntN.{ℤ}
 use Rattle.theory.specs.Tests.{_and_, unless}
 use Rattle.theory.specs.Signed as theory
 use Rattle.number.specs.Entry.{all}
@@ -63,3 +64,16 @@ naturalAt line k = numeral 10 (wordAt line k)
 
 abbrev pub integerAt : List ℕ → ℕ → Integer
 integerAt line k = signedNumeral (wordAt line k)
+
+-- ---- what follows from a numeral, or else
+unfoldable pub ifNatural : {A : Type 0} → Natural → (otherwise : A) → (ℕ → A) → A
+ifNatural (natural.Value n) otherwise go-on = go-on n
+ifNatural natural.Malformed otherwise go-on = otherwise
+
+unfoldable pub ifInteger : {A : Type 0} → Integer → (otherwise : A) → (ℤ → A) → A
+ifInteger (integer.Value z) otherwise go-on = go-on z
+ifInteger integer.Malformed otherwise go-on = otherwise
+
+-- is it n?
+abbrev pub isValue : Natural → ℕ → Bool
+isValue read n = ifNatural read false (λ m. eqb m n)
