@@ -2,3 +2,4 @@
 pub mod WordLaws
 pub mod NumeralLaws
 pub mod PatternLineLaws
+pub mod DecimalLineLaws

@@ -3,3 +3,4 @@ pub mod Words
 pub mod Names
 pub mod Numerals
 pub mod PatternLines
+pub mod DecimalLines
