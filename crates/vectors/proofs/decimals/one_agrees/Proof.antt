@@ -62,8 +62,8 @@ returns-2 c =
     let p = c .before in
     let t = p .before in
     let w = t .before in
-    let e1 = w .before .before in
-    c .agrees2 .ensures ∙ ap (hasAnswer (text (w .before .before .before .before .before .before)) 10) (p .negate .ensures) ∙ is-neg _ _ _ (not-abs e1) (sym (w .is-word2 .ensures) ∙ t .if2 .taken)
+    let past-abs = w .before .before in
+    c .agrees2 .ensures ∙ ap (hasAnswer (text (w .before .before .before .before .before .before)) 10) (p .negate .ensures) ∙ is-neg _ _ _ (not-abs past-abs) (sym (w .is-word2 .ensures) ∙ t .if2 .taken)
 
 slice-aggregate-is-word-3 : tie.Need-slice-aggregate-is-word-3
 slice-aggregate-is-word-3 c = search needs
@@ -82,9 +82,9 @@ returns-3 c =
     let p = c .before in
     let t = p .before in
     let w = t .before in
-    let e2 = w .before .before in
-    let e1 = e2 .before .before .before in
-    c .agrees3 .ensures ∙ ap (hasAnswer (text (w .before .before .before .before .before .before .before .before .before)) 10) (p .predecessor .ensures) ∙ is-pred _ _ _ (not-abs e1) (not-neg e2) (sym (w .is-word3 .ensures) ∙ t .if3 .taken)
+    let past-neg = w .before .before in
+    let past-abs = past-neg .before .before .before in
+    c .agrees3 .ensures ∙ ap (hasAnswer (text (w .before .before .before .before .before .before .before .before .before)) 10) (p .predecessor .ensures) ∙ is-pred _ _ _ (not-abs past-abs) (not-neg past-neg) (sym (w .is-word3 .ensures) ∙ t .if3 .taken)
 
 slice-aggregate-is-word-4 : tie.Need-slice-aggregate-is-word-4
 slice-aggregate-is-word-4 c = search needs
@@ -103,10 +103,10 @@ returns-4 c =
     let p = c .before in
     let t = p .before in
     let w = t .before in
-    let e3 = w .before .before in
-    let e2 = e3 .before .before .before in
-    let e1 = e2 .before .before .before in
-    c .agrees4 .ensures ∙ ap (hasAnswer (text (w .before .before .before .before .before .before .before .before .before .before .before .before)) 10) (p .successor .ensures) ∙ is-succ _ _ _ (not-abs e1) (not-neg e2) (not-pred e3) (sym (w .is-word4 .ensures) ∙ t .if4 .taken)
+    let past-pred = w .before .before in
+    let past-neg = past-pred .before .before .before in
+    let past-abs = past-neg .before .before .before in
+    c .agrees4 .ensures ∙ ap (hasAnswer (text (w .before .before .before .before .before .before .before .before .before .before .before .before)) 10) (p .successor .ensures) ∙ is-succ _ _ _ (not-abs past-abs) (not-neg past-neg) (not-pred past-pred) (sym (w .is-word4 .ensures) ∙ t .if4 .taken)
 
 slice-aggregate-is-word-5 : tie.Need-slice-aggregate-is-word-5
 slice-aggregate-is-word-5 c = search needs
@@ -125,20 +125,20 @@ returns-5 c =
     let p = c .before in
     let t = p .before in
     let w = t .before in
-    let e4 = w .before .before in
-    let e3 = e4 .before .before .before in
-    let e2 = e3 .before .before .before in
-    let e1 = e2 .before .before .before in
-    c .agrees5 .ensures ∙ ap (hasAnswer (text (w .before .before .before .before .before .before .before .before .before .before .before .before .before .before .before)) 10) (p .ufp .ensures) ∙ is-ufp _ _ _ (not-abs e1) (not-neg e2) (not-pred e3) (not-succ e4) (sym (w .is-word5 .ensures) ∙ t .if5 .taken)
+    let past-succ = w .before .before in
+    let past-pred = past-succ .before .before .before in
+    let past-neg = past-pred .before .before .before in
+    let past-abs = past-neg .before .before .before in
+    c .agrees5 .ensures ∙ ap (hasAnswer (text (w .before .before .before .before .before .before .before .before .before .before .before .before .before .before .before)) 10) (p .ufp .ensures) ∙ is-ufp _ _ _ (not-abs past-abs) (not-neg past-neg) (not-pred past-pred) (not-succ past-succ) (sym (w .is-word5 .ensures) ∙ t .if5 .taken)
 
 returns-6 : tie.Need-returns-6
 returns-6 c =
     let w = c .before in
-    let e4 = w .before .before in
-    let e3 = e4 .before .before .before in
-    let e2 = e3 .before .before .before in
-    let e1 = e2 .before .before .before in
-    not-one _ _ _ (not-abs e1) (not-neg e2) (not-pred e3) (not-succ e4) (sym (w .is-word5 .ensures) ∙ c .if5 .left)
+    let past-succ = w .before .before in
+    let past-pred = past-succ .before .before .before in
+    let past-neg = past-pred .before .before .before in
+    let past-abs = past-neg .before .before .before in
+    not-one _ _ _ (not-abs past-abs) (not-neg past-neg) (not-pred past-pred) (not-succ past-succ) (sym (w .is-word5 .ensures) ∙ c .if5 .left)
 
 pub one-agrees-spec : {M : Type 1} → statement M
 one-agrees-spec =

@@ -62,8 +62,8 @@ returns-2 c =
     let p = c .before in
     let t = p .before in
     let w = t .before in
-    let e1 = w .before .before in
-    c .agrees2 .ensures ∙ ap (hasAnswer (text (w .before .before .before .before .before .before)) 13) (p .difference .ensures) ∙ is-diff _ _ _ _ _ (not-sum e1) (sym (w .is-word2 .ensures) ∙ t .if2 .taken)
+    let past-sum = w .before .before in
+    c .agrees2 .ensures ∙ ap (hasAnswer (text (w .before .before .before .before .before .before)) 13) (p .difference .ensures) ∙ is-diff _ _ _ _ _ (not-sum past-sum) (sym (w .is-word2 .ensures) ∙ t .if2 .taken)
 
 slice-aggregate-is-word-3 : tie.Need-slice-aggregate-is-word-3
 slice-aggregate-is-word-3 c = search needs
@@ -82,9 +82,9 @@ returns-3 c =
     let p = c .before in
     let t = p .before in
     let w = t .before in
-    let e2 = w .before .before in
-    let e1 = e2 .before .before .before in
-    c .agrees3 .ensures ∙ ap (hasAnswer (text (w .before .before .before .before .before .before .before .before .before)) 13) (p .product .ensures) ∙ is-prod _ _ _ _ _ (not-sum e1) (not-diff e2) (sym (w .is-word3 .ensures) ∙ t .if3 .taken)
+    let past-diff = w .before .before in
+    let past-sum = past-diff .before .before .before in
+    c .agrees3 .ensures ∙ ap (hasAnswer (text (w .before .before .before .before .before .before .before .before .before)) 13) (p .product .ensures) ∙ is-prod _ _ _ _ _ (not-sum past-sum) (not-diff past-diff) (sym (w .is-word3 .ensures) ∙ t .if3 .taken)
 
 slice-aggregate-is-word-4 : tie.Need-slice-aggregate-is-word-4
 slice-aggregate-is-word-4 c = search needs
@@ -103,10 +103,10 @@ returns-4 c =
     let p = c .before in
     let t = p .before in
     let w = t .before in
-    let e3 = w .before .before in
-    let e2 = e3 .before .before .before in
-    let e1 = e2 .before .before .before in
-    c .agrees4 .ensures ∙ ap (hasAnswer (text (w .before .before .before .before .before .before .before .before .before .before .before .before)) 13) (p .quotient .ensures) ∙ is-quot _ _ _ _ _ (not-sum e1) (not-diff e2) (not-prod e3) (sym (w .is-word4 .ensures) ∙ t .if4 .taken)
+    let past-prod = w .before .before in
+    let past-diff = past-prod .before .before .before in
+    let past-sum = past-diff .before .before .before in
+    c .agrees4 .ensures ∙ ap (hasAnswer (text (w .before .before .before .before .before .before .before .before .before .before .before .before)) 13) (p .quotient .ensures) ∙ is-quot _ _ _ _ _ (not-sum past-sum) (not-diff past-diff) (not-prod past-prod) (sym (w .is-word4 .ensures) ∙ t .if4 .taken)
 
 slice-aggregate-is-word-5 : tie.Need-slice-aggregate-is-word-5
 slice-aggregate-is-word-5 c = search needs
@@ -125,20 +125,20 @@ returns-5 c =
     let p = c .before in
     let t = p .before in
     let w = t .before in
-    let e4 = w .before .before in
-    let e3 = e4 .before .before .before in
-    let e2 = e3 .before .before .before in
-    let e1 = e2 .before .before .before in
-    c .order-agrees .ensures ∙ ap (hasOrder (text (w .before .before .before .before .before .before .before .before .before .before .before .before .before .before .before))) (p .compare .ensures) ∙ is-cmp _ _ _ _ _ (not-sum e1) (not-diff e2) (not-prod e3) (not-quot e4) (sym (w .is-word5 .ensures) ∙ t .if5 .taken)
+    let past-quot = w .before .before in
+    let past-prod = past-quot .before .before .before in
+    let past-diff = past-prod .before .before .before in
+    let past-sum = past-diff .before .before .before in
+    c .order-agrees .ensures ∙ ap (hasOrder (text (w .before .before .before .before .before .before .before .before .before .before .before .before .before .before .before))) (p .compare .ensures) ∙ is-cmp _ _ _ _ _ (not-sum past-sum) (not-diff past-diff) (not-prod past-prod) (not-quot past-quot) (sym (w .is-word5 .ensures) ∙ t .if5 .taken)
 
 returns-6 : tie.Need-returns-6
 returns-6 c =
     let w = c .before in
-    let e4 = w .before .before in
-    let e3 = e4 .before .before .before in
-    let e2 = e3 .before .before .before in
-    let e1 = e2 .before .before .before in
-    not-two _ _ _ _ _ (not-sum e1) (not-diff e2) (not-prod e3) (not-quot e4) (sym (w .is-word5 .ensures) ∙ c .if5 .left)
+    let past-quot = w .before .before in
+    let past-prod = past-quot .before .before .before in
+    let past-diff = past-prod .before .before .before in
+    let past-sum = past-diff .before .before .before in
+    not-two _ _ _ _ _ (not-sum past-sum) (not-diff past-diff) (not-prod past-prod) (not-quot past-quot) (sym (w .is-word5 .ensures) ∙ c .if5 .left)
 
 pub two-agree-spec : {M : Type 1} → statement M
 two-agree-spec =
