@@ -4,11 +4,10 @@ use mathlib.Core.Path.{_≡_, refl, sym, ap, _∙_}
 use mathlib.Core.Bool.{Bool, true, false, not, cond}
 use mathlib.Core.List.{List, [], _∷_}
 use native.Mathlib.Nat.{add-zero}
-use native.Mathlib.Numerals.{add-one}
 use native.Mathlib.Omega.{arith}
 use lib.Dec.{eqb}
 use lib.ListN.{length, getD, take, drop, length-drop, drop-of-length-le}
-use lib.Seq.{drop-cons, drop-length, drop-drop}
+use lib.Seq.{drop-drop}
 use borrow.Author.Tests.{eq-eqb, ne-eqb}
 use Rattle.theory.specs.Tests.{_and_}
 use Rattle.vectors.specs.declared.Count.{Count}
@@ -17,6 +16,7 @@ use Rattle.vectors.specs.Words.{withFirst, lastWord}
 use Rattle.vectors.specs.PatternLines.{patternLineAgrees}
 use Rattle.vectors.specs.DecimalLines.{decimalLineAgrees}
 use Rattle.vectors.specs.Counting.{linesOf, lineLength, isPatternLine, isNumberLine, agrees, differs, howMany, tallyOf, oneMore, more, countWith, withLine}
+use Rattle.vectors.proofs.WordLaws.{rest, nothing-left}
 
 -- ---- the first line
 pub length-most : (l : List ℕ) → lineLength l ≤ length l
@@ -61,20 +61,17 @@ lines-most (b ∷ bs) = by (eqb b 10) (lines-most bs)
 -- ---- the end of a line
 module _ (input : List ℕ) (i : ℕ) where
   module _ (h : i < length input) where
-    rest : drop i input ≡ getD input i 0 ∷ drop (i + 1) input
-    rest = rw (add-one, drop-cons input i 0)
-
     pub feed : getD input i 0 ≡ 10 → lineLength (drop i input) ≡ 0
     unfolding lineLength
-    feed e = rw (rest, eq-eqb _ _ e)
+    feed e = rw (rest input i h, eq-eqb _ _ e)
 
     pub no-feed : (getD input i 0 ≡ 10 → ⊥) → lineLength (drop i input) ≡ 1 + lineLength (drop (i + 1) input)
     unfolding lineLength
-    no-feed e = rw (rest, ne-eqb _ _ e) (omega arith)
+    no-feed e = rw (rest input i h, ne-eqb _ _ e) (omega arith)
 
   pub end : i ≡ length input → lineLength (drop i input) ≡ 0
   unfolding lineLength
-  end e = rw (e, drop-length input)
+  end e = rw (nothing-left input i e)
 
 -- ---- one line more
 count-most : (test : List ℕ → Bool) (ls : List (List ℕ)) → howMany test ls ≤ length ls

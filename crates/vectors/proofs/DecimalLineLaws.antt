@@ -9,7 +9,7 @@ use borrow.Author.Tests.{le-leb, lt-leb, eq-eqb, ne-eqb, eqb-true}
 use mir.Syntax.{w32}
 use mir.Val.{SFits, ofZ}
 use Rattle.theory.specs.Tests.{_and_, unless}
-use Rattle.theory.proofs.Tests.{never, refuted}
+use Rattle.theory.proofs.Tests.{never}
 use Rattle.format.specs.declared.Format.{Format}
 use Rattle.format.proofs.Signed.{eq-taken}
 use Rattle.number.specs.declared.Number.{Number}

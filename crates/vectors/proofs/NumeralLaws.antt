@@ -5,7 +5,7 @@ use mathlib.Core.Bool.{Bool, true, false}
 use mathlib.Core.List.{List, [], _∷_}
 use native.Mathlib.Numerals.{add-one}
 use native.Mathlib.Omega.{arith}
-use lib.Dec.{leb}
+use lib.Dec.{leb, ltb}
 use lib.ListN.{length, getD, take, drop-of-length-le}
 use lib.Seq.{slice, slice-empty, slice-cons, length-slice, length-take-le}
 use borrow.Author.Tests.{lt-ltb, le-ltb, le-leb, leb-true, eq-eqb, ne-eqb}
@@ -16,8 +16,8 @@ use Rattle.vectors.specs.declared.Span.{Span}
 use Rattle.vectors.specs.declared.Natural.{Natural}
 use Rattle.vectors.specs.declared.Natural.the-variants as natural
 use Rattle.vectors.specs.declared.Integer.the-variants as integer
-use Rattle.vectors.specs.Words.{wordAt, Spans}
-use Rattle.vectors.specs.Numerals.{Base, ten, sixteen, digitOf, isDigit, valueFrom, digitsAfter, numeral, eightDigits, withSign, signedNumeral, naturalAt, integerAt}
+use Rattle.vectors.specs.Words.{Spans}
+use Rattle.vectors.specs.Numerals.{Base, ten, sixteen, digitOf, isDigit, valueFrom, isNumeral, numeral, eightDigits, withSign, signedNumeral, integerAt}
 
 -- ---- bases
 pub not-sixteen : {β : ℕ} → Base β → (β ≡ 16 → ⊥) → β ≡ 10
@@ -64,6 +64,11 @@ unfolding valueFrom
 grows base v [] = omega arith
 grows {β} base v (b ∷ bs) = omega (arith, not-less base v (digitOf b), grows base (v * β + digitOf b) bs)
 
+-- digits that follow those of v, the whole a numeral
+unfoldable pub digitsAfter : (β v : ℕ) → List ℕ → Natural
+digitsAfter β v bytes =
+    unless (all (isDigit β) bytes and ltb (valueFrom β v bytes) (2 ^ 28 * β)) natural.Malformed (natural.Value (valueFrom β v bytes))
+
 module _ (β v b : ℕ) (bs : List ℕ) where
   other-digit : β ≤ digitOf b → digitsAfter β v (b ∷ bs) ≡ natural.Malformed
   unfolding digitsAfter all _and_ unless
@@ -95,8 +100,12 @@ pub next-byte : (line : List ℕ) (i end : ℕ) → i < end → end ≤ length l
 next-byte line i end h l = rw add-one (slice-cons i end line 0 h l)
 
 pub no-numeral : (β : ℕ) → natural.Malformed ≡ numeral β []
-unfolding numeral
+unfolding numeral isNumeral _and_ unless
 no-numeral β = refl
+
+some-digits : (β b : ℕ) (bs : List ℕ) → digitsAfter β 0 (b ∷ bs) ≡ numeral β (b ∷ bs)
+unfolding digitsAfter numeral isNumeral _and_
+some-digits β b bs = rw (lt-ltb 0 (suc (length bs)) (omega arith))
 
 -- the digits before i have the value v
 pub record Valued (β : ℕ) (line : List ℕ) (start end v i : ℕ) : Type 0 where
@@ -107,14 +116,13 @@ pub record Valued (β : ℕ) (line : List ℕ) (start end v i : ℕ) : Type 0 wh
   pub holds : digitsAfter β v (slice i end line) ≡ numeral β (slice start end line)
 
 pub starts : {β : ℕ} {line : List ℕ} {start end : ℕ} → Base β → start < end → end ≤ length line → Valued β line start end 0 start
-unfolding numeral
 starts {β} {line} {start} {end} base h l =
     record {
       base = base;
       within = omega arith;
       room = l;
       small = some base;
-      holds = rw (next-byte line start end h l);
+      holds = rw (next-byte line start end h l) (some-digits β _ _);
     }
   where
     some : {γ : ℕ} → Base γ → 0 < 2 ^ 28 * γ

@@ -1,47 +1,22 @@
 -- Laws of lines of patterns: when the bytes of an answer are the ones wanted, and what a line with its operands read agrees with.
-use Prim.Native.Nat.{ℕ, zero, suc, _+_, _-_, _≤_}
-use mathlib.Core.Path.{_≡_, refl, sym, ap, _∙_}
+use Prim.Native.Nat.{ℕ}
+use mathlib.Core.Path.{_≡_, refl, ap, _∙_}
 use mathlib.Core.Bool.{Bool, true, false}
-use mathlib.Core.List.{List, [], _∷_}
+use mathlib.Core.List.{List}
 use mathlib.Core.Option.{Option, none, some}
-use native.Mathlib.Nat.{zero-add, suc-add}
-use native.Mathlib.Omega.{arith}
 use lib.Dec.{eqb}
 use lib.ListN.{length, take, drop}
-use lib.Seq.{slice, length-slice, take-nil, take-take, drop-drop}
 use borrow.Author.Tests.{eq-eqb, ne-eqb}
 use Rattle.theory.specs.Tests.{_and_}
 use Rattle.binary32.specs.declared.Pattern.{Pattern}
 use Rattle.binary32_arithmetic.specs.declared.Operation.{Operation}
 use Rattle.binary32_arithmetic.specs.declared.Operation.the-variants.{Sum, Difference, Product, Quotient}
 use Rattle.binary32_arithmetic.specs.Calls.{patternCall}
-use Rattle.vectors.specs.declared.Span.{Span}
-use Rattle.vectors.specs.declared.Natural.{Natural}
 use Rattle.vectors.specs.declared.Natural.the-variants.{Value, Malformed}
-use Rattle.vectors.specs.Words.{wordAt, same, isWord, Spans}
+use Rattle.vectors.specs.Words.{wordAt, same, isWord}
 use Rattle.vectors.specs.Numerals.{ifNatural, isValue, eightDigits, naturalAt}
 use Rattle.vectors.specs.Names.{arrow, sumName, diffName, prodName, quotName}
 use Rattle.vectors.specs.PatternLines.{patternAt, isAnswer, hasPattern, operationNamed, operationAgrees, patternLineAgrees}
-
--- ---- parts of a line
-pub take-of-drop : (n m : ℕ) (l : List ℕ) → take m (drop n l) ≡ slice n (n + m) l
-take-of-drop zero m l = rw zero-add
-take-of-drop (suc n) m [] = rw (suc-add, take-nil)
-take-of-drop (suc n) m (x ∷ xs) = rw suc-add (take-of-drop n m xs)
-
-module _ {line : List ℕ} {k : ℕ} {r : Span} (g : Spans line k r) where
-  pub first-bytes : (m : ℕ) → r .start + m ≤ r .end → slice (r .start) (r .start + m) line ≡ take m (wordAt line k)
-  first-bytes m h =
-      ap (drop (r .start)) (sym (take-take (r .start + m) (r .end) line h))
-      ∙ sym (take-of-drop (r .start) m (take (r .end) line))
-      ∙ ap (take m) (g .holds)
-
-  pub last-bytes : (m : ℕ) → slice (r .start + m) (r .end) line ≡ drop m (wordAt line k)
-  last-bytes m = sym (drop-drop m (r .start) (take (r .end) line)) ∙ ap (drop m) (g .holds)
-
--- the length of a word
-pub word-length : {line : List ℕ} {k : ℕ} {r : Span} → Spans line k r → r .end - r .start ≡ length (wordAt line k)
-word-length {line} {k} {r} g = sym (length-slice (r .start) (r .end) line (g .within)) ∙ ap length (g .holds)
 
 -- ---- the bytes of an answer
 module _ (bytes : List ℕ) (refusal n : ℕ) where

@@ -1,14 +1,15 @@
--- Laws of the words of a line: how the words of what is left of a line make those of the whole, and when two texts are the same.
-use Prim.Native.Nat.{ℕ, suc, _+_, _-_, _≤_, _<_, min}
+-- Laws of the words of a line: how the words of what is left of a line make those of the whole, parts of a word, and when two texts
+-- are the same.
+use Prim.Native.Nat.{ℕ, zero, suc, _+_, _-_, _≤_, _<_, min}
 use mathlib.Core.Path.{_≡_, refl, sym, ap, _∙_}
 use mathlib.Core.Bool.{Bool, true, false, cond}
 use mathlib.Core.List.{List, [], _∷_, _++_, append-assoc, append-nil}
-use native.Mathlib.Nat.{add-zero}
+use native.Mathlib.Nat.{add-zero, zero-add, suc-add}
 use native.Mathlib.Numerals.{add-one}
 use native.Mathlib.Omega.{arith}
 use lib.Dec.{eqb}
 use lib.ListN.{length, getD, take, drop}
-use lib.Seq.{slice, slice-empty, slice-cons, length-slice, drop-cons, drop-length, take-suc, drop-append-le, length-take-le}
+use lib.Seq.{slice, slice-empty, slice-cons, length-slice, drop-cons, drop-length, take-suc, drop-append-le, length-take-le, take-nil, take-take, drop-drop}
 use borrow.Author.Tests.{eq-eqb, ne-eqb}
 use Rattle.theory.specs.Tests.{_and_}
 use Rattle.theory.proofs.Tests.{never, and-right, refuted}
@@ -52,7 +53,7 @@ unfolding lastWord
 last-other b bs h = rw (words-other b bs h) (omega (arith, first-longer b (wordsOf bs) (some-word bs)))
 
 module _ (line : List ℕ) (i : ℕ) where
-  rest : i < length line → drop i line ≡ getD line i 0 ∷ drop (i + 1) line
+  pub rest : i < length line → drop i line ≡ getD line i 0 ∷ drop (i + 1) line
   rest h = rw (add-one, drop-cons line i 0)
 
   pub count-space : i < length line → getD line i 0 ≡ 32 → lastWord (drop i line) ≡ 1 + lastWord (drop (i + 1) line)
@@ -165,6 +166,25 @@ module _ {line : List ℕ} {k start spaces i : ℕ} (g : Reading line k start sp
       let w : begun (slice start i line) (wordsOf (drop i line)) ≡ slice start i line ∷ [] = rw (nothing-left line i e, append-nil) in
       sym (ap (λ (ws : List (List ℕ)). pick ws (k - spaces)) w ∙ pick-only _ (k - spaces)) ∙ g .holds
 
+-- ---- parts of a word
+pub take-of-drop : (n m : ℕ) (l : List ℕ) → take m (drop n l) ≡ slice n (n + m) l
+take-of-drop zero m l = rw zero-add
+take-of-drop (suc n) m [] = rw (suc-add, take-nil)
+take-of-drop (suc n) m (x ∷ xs) = rw suc-add (take-of-drop n m xs)
+
+module _ {line : List ℕ} {k : ℕ} {r : Span} (g : Spans line k r) where
+  pub first-bytes : (m : ℕ) → r .start + m ≤ r .end → slice (r .start) (r .start + m) line ≡ take m (wordAt line k)
+  first-bytes m h =
+      ap (drop (r .start)) (sym (take-take (r .start + m) (r .end) line h))
+      ∙ sym (take-of-drop (r .start) m (take (r .end) line))
+      ∙ ap (take m) (g .holds)
+
+  pub last-bytes : (m : ℕ) → slice (r .start + m) (r .end) line ≡ drop m (wordAt line k)
+  last-bytes m = sym (drop-drop m (r .start) (take (r .end) line)) ∙ ap (drop m) (g .holds)
+
+pub word-length : {line : List ℕ} {k : ℕ} {r : Span} → Spans line k r → r .end - r .start ≡ length (wordAt line k)
+word-length {line} {k} {r} g = sym (length-slice (r .start) (r .end) line (g .within)) ∙ ap length (g .holds)
+
 -- ---- the same text
 same-length : (a b : List ℕ) → same a b ≡ true → length a ≡ length b
 unfolding same
@@ -184,7 +204,7 @@ other-byte a b t bs h = rw (ne-eqb a b h)
 -- a word of another length
 pub other-length : (line : List ℕ) (k : ℕ) (r : Span) (text : List ℕ) → Spans line k r → (r .end - r .start ≡ length text → ⊥) → false ≡ isWord line k text
 other-length line k r text g h =
-    refuted (λ e. h (sym (length-slice (r .start) (r .end) line (g .within)) ∙ ap length (g .holds) ∙ same-length _ _ e))
+    refuted (λ e. h (word-length g ∙ same-length _ _ e))
 
 -- the bytes before i are the same
 pub record Comparing (line : List ℕ) (k : ℕ) (text : List ℕ) (start i : ℕ) : Type 0 where

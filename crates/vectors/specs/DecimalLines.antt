@@ -1,7 +1,7 @@
 -- Lines of numbers: `op base digits emin emax direction s m e -> answer`, with a second `s m e` where the call takes two. The answer is
 -- `n s m e`, `r` and the refusal's number, or for a comparison `c` and -1, 0 or 1.
 use Prim.Native.Nat.{ℕ, _+_}
-use mathlib.Core.Bool.{Bool, true, false, not, xor, cond}
+use mathlib.Core.Bool.{Bool, false, not, xor, cond}
 use mathlib.Core.List.{List}
 use lib.Dec.{eqb, leb}
 use lib.IntN.{ℤ, pos, negsuc}

@@ -33,16 +33,16 @@ unfoldable pub valueFrom : (β v : ℕ) → List ℕ → ℕ
 valueFrom β v [] = v
 valueFrom β v (b ∷ bs) = valueFrom β (v * β + digitOf b) bs
 
--- ---- numerals
--- digits whose value after v is below 2 ^ 28 × β, so that it has 32 bits
-unfoldable pub digitsAfter : (β v : ℕ) → List ℕ → Natural
-digitsAfter β v bytes =
-    unless (all (isDigit β) bytes and ltb (valueFrom β v bytes) (2 ^ 28 * β)) natural.Malformed (natural.Value (valueFrom β v bytes))
+abbrev pub valueOf : (β : ℕ) → List ℕ → ℕ
+valueOf β bytes = valueFrom β 0 bytes
 
--- a numeral in base β has a digit
+-- ---- numerals
+-- in base β: there is a digit, every byte is one, and the value is below 2 ^ 28 × β, so that it has 32 bits
+unfoldable pub isNumeral : (β : ℕ) → List ℕ → Bool
+isNumeral β bytes = ltb 0 (length bytes) and all (isDigit β) bytes and ltb (valueOf β bytes) (2 ^ 28 * β)
+
 unfoldable pub numeral : (β : ℕ) → List ℕ → Natural
-numeral β [] = natural.Malformed
-numeral β (b ∷ bs) = digitsAfter β 0 (b ∷ bs)
+numeral β bytes = unless (isNumeral β bytes) natural.Malformed (natural.Value (valueOf β bytes))
 
 -- eight hexadecimal digits
 unfoldable pub eightDigits : List ℕ → Natural

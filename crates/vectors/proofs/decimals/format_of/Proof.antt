@@ -16,13 +16,23 @@ use Rattle.vectors.proofs.decimals.format_of.Tie as tie
 abbrev text : tie.Start → List ℕ
 text s = s .args .line .now
 
-base-read : (c : tie.After-known-told) → naturalAt (text (c .before .before .before .before .before)) 1 ≡ natural.Value (c .before .base .given .0 .0)
+-- where the words before were read
+abbrev start : tie.After-known-told → tie.Start
+start c = c .before .before .before .before .before
+
+abbrev base : tie.After-known-told2 → tie.After-known-told
+base c = c .before .before .before .before
+
+abbrev digits : tie.After-known-told3 → tie.After-known-told2
+digits c = c .before .before .before .before
+
+base-read : (c : tie.After-known-told) → naturalAt (text (start c)) 1 ≡ natural.Value (c .before .base .given .0 .0)
 base-read c = sym (c .before .before .before .natural .ensures) ∙ c .before .base .given .1
 
-digits-read : (c : tie.After-known-told2) → naturalAt (text (c .before .before .before .before .before .before .before .before .before)) 2 ≡ natural.Value (c .before .digits .given .0 .0)
+digits-read : (c : tie.After-known-told2) → naturalAt (text (start (base c))) 2 ≡ natural.Value (c .before .digits .given .0 .0)
 digits-read c = sym (c .before .before .before .natural2 .ensures) ∙ c .before .digits .given .1
 
-emin-read : (c : tie.After-known-told3) → integerAt (text (c .before .before .before .before .before .before .before .before .before .before .before .before .before)) 3 ≡ integer.Value (c .before .emin .given .0 .0)
+emin-read : (c : tie.After-known-told3) → integerAt (text (start (base (digits c)))) 3 ≡ integer.Value (c .before .emin .given .0 .0)
 emin-read c = sym (c .before .before .before .integer .ensures) ∙ c .before .emin .given .1
 
 emin-fits : (c : tie.After-known-told3) → SFits w32 (c .before .emin .given .0 .0)
@@ -68,7 +78,7 @@ returns-3 : tie.Need-returns-3
 returns-3 c =
     let n = c .before .before in
     let k = n .before in
-    no-emin _ (base-read (k .before .before .before .before)) (digits-read k) (sym (n .integer .ensures) ∙ c .enum-told3 .given .1)
+    no-emin _ (base-read (base k)) (digits-read k) (sym (n .integer .ensures) ∙ c .enum-told3 .given .1)
 
 integer-requires-2 : tie.Need-integer-requires-2
 integer-requires-2 c κs = search needs
@@ -83,12 +93,12 @@ returns-4 : tie.Need-returns-4
 returns-4 c =
     let n = c .before .before in
     let k = n .before in
-    no-emax _ (base-read (k .before .before .before .before .before .before .before .before)) (digits-read (k .before .before .before .before)) (emin-read k) (sym (n .integer2 .ensures) ∙ c .enum-told4 .given .1)
+    no-emax _ (base-read (base (digits k))) (digits-read (digits k)) (emin-read k) (sym (n .integer2 .ensures) ∙ c .enum-told4 .given .1)
 
 returns-5 : tie.Need-returns-5
 returns-5 c =
     let k = c .before .before .before .before in
-    format-read _ (base-read (k .before .before .before .before .before .before .before .before)) (digits-read (k .before .before .before .before)) (emin-read k) (sym (c .before .before .before .integer2 .ensures) ∙ c .before .emax .given .1) (back (emin-fits k)) (back (emax-fits c))
+    format-read _ (base-read (base (digits k))) (digits-read (digits k)) (emin-read k) (sym (c .before .before .before .integer2 .ensures) ∙ c .before .emax .given .1) (back (emin-fits k)) (back (emax-fits c))
 
 pub format-of-spec : {M : Type 1} → statement M
 format-of-spec =

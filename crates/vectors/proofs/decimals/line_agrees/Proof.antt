@@ -19,19 +19,32 @@ use Rattle.vectors.proofs.decimals.line_agrees.Tie as tie
 abbrev text : tie.Start → List ℕ
 text s = s .args .line .now
 
-format-read : (c : tie.After-known-told) → formatAt (text (c .before .before .before .before .before)) ≡ description.Value (c .before .format .given .0 .0)
+-- where the words before were read
+abbrev start : tie.After-known-told → tie.Start
+start c = c .before .before .before .before .before
+
+abbrev format : tie.After-known-told2 → tie.After-known-told
+format c = c .before .before .before .before
+
+abbrev direction : tie.After-known-told3 → tie.After-known-told2
+direction c = c .before .before .before .before
+
+abbrev first : tie.Else1 → tie.After-known-told3
+first c = c .before .before .before
+
+format-read : (c : tie.After-known-told) → formatAt (text (start c)) ≡ description.Value (c .before .format .given .0 .0)
 format-read c = sym (c .before .before .before .format-of .ensures) ∙ c .before .format .given .1
 
-direction-read : (c : tie.After-known-told2) → naturalAt (text (c .before .before .before .before .before .before .before .before .before)) 5 ≡ natural.Value (c .before .direction .given .0 .0)
+direction-read : (c : tie.After-known-told2) → naturalAt (text (start (format c))) 5 ≡ natural.Value (c .before .direction .given .0 .0)
 direction-read c = sym (c .before .before .before .natural .ensures) ∙ c .before .direction .given .1
 
-first-read : (c : tie.After-known-told3) → numberAt (text (c .before .before .before .before .before .before .before .before .before .before .before .before .before)) 6 ≡ operand.Value (c .before .a .given .0 .0)
+first-read : (c : tie.After-known-told3) → numberAt (text (start (format (direction c)))) 6 ≡ operand.Value (c .before .a .given .0 .0)
 first-read c = sym (c .before .before .before .number-at .ensures) ∙ c .before .a .given .1
 
-second-read : (c : tie.After-known-told4) → numberAt (text (c .before .before .before .before .before .before .before .before .before .before .before .before .before .before .before .before .before .before .before .before)) 9 ≡ operand.Value (c .before .b .given .0 .0)
+second-read : (c : tie.After-known-told4) → numberAt (text (start (format (direction (first (c .before .before .before .before)))))) 9 ≡ operand.Value (c .before .b .given .0 .0)
 second-read c = sym (c .before .before .before .number-at2 .ensures) ∙ c .before .b .given .1
 
-more : (c : tie.Else1) → isWord (text (c .before .before .before .before .before .before .before .before .before .before .before .before .before .before .before .before)) 9 arrow ≡ false
+more : (c : tie.Else1) → isWord (text (start (format (direction (first c))))) 9 arrow ≡ false
 more c = sym (c .before .is-word .ensures) ∙ c .if1 .left
 
 format-of-requires : tie.Need-format-of-requires
@@ -71,7 +84,7 @@ returns-3 : tie.Need-returns-3
 returns-3 c =
     let n = c .before .before in
     let k = n .before in
-    no-first _ (format-read (k .before .before .before .before)) (direction-read k) (sym (n .number-at .ensures) ∙ c .enum-told3 .given .1)
+    no-first _ (format-read (format k)) (direction-read k) (sym (n .number-at .ensures) ∙ c .enum-told3 .given .1)
 
 slice-aggregate-is-word : tie.Need-slice-aggregate-is-word
 slice-aggregate-is-word c = search needs
@@ -88,7 +101,7 @@ returns-4 c =
     let w = t .before in
     let k = w .before .before in
     c .one-agrees .ensures
-    ∙ one-called _ (format-read (k .before .before .before .before .before .before .before .before)) (direction-read (k .before .before .before .before)) (first-read k) (sym (w .is-word .ensures) ∙ t .if1 .taken)
+    ∙ one-called _ (format-read (format (direction k))) (direction-read (direction k)) (first-read k) (sym (w .is-word .ensures) ∙ t .if1 .taken)
 
 number-at-requires-2 : tie.Need-number-at-requires-2
 number-at-requires-2 c κs = search needs
@@ -103,8 +116,8 @@ returns-5 : tie.Need-returns-5
 returns-5 c =
     let n = c .before .before in
     let e = n .before in
-    let k = e .before .before .before in
-    no-second _ (format-read (k .before .before .before .before .before .before .before .before)) (direction-read (k .before .before .before .before)) (first-read k) (more e) (sym (n .number-at2 .ensures) ∙ c .enum-told4 .given .1)
+    let k = first e in
+    no-second _ (format-read (format (direction k))) (direction-read (direction k)) (first-read k) (more e) (sym (n .number-at2 .ensures) ∙ c .enum-told4 .given .1)
 
 slice-aggregate-is-word-2 : tie.Need-slice-aggregate-is-word-2
 slice-aggregate-is-word-2 c = search needs
@@ -117,8 +130,8 @@ returns-6 c =
     let w = c .before in
     let s = w .before .before in
     let e = s .before .before .before .before in
-    let k = e .before .before .before in
-    no-arrow _ (format-read (k .before .before .before .before .before .before .before .before)) (direction-read (k .before .before .before .before)) (first-read k) (more e) (second-read s) (denied (w .is-word2 .ensures) (c .if2 .taken))
+    let k = first e in
+    no-arrow _ (format-read (format (direction k))) (direction-read (direction k)) (first-read k) (more e) (second-read s) (denied (w .is-word2 .ensures) (c .if2 .taken))
 
 two-agree-requires : tie.Need-two-agree-requires
 two-agree-requires c κs = search needs
@@ -129,9 +142,9 @@ returns-7 c =
     let w = t .before in
     let s = w .before .before in
     let e = s .before .before .before .before in
-    let k = e .before .before .before in
+    let k = first e in
     c .two-agree .ensures
-    ∙ two-called _ (format-read (k .before .before .before .before .before .before .before .before)) (direction-read (k .before .before .before .before)) (first-read k) (more e) (second-read s) (granted (w .is-word2 .ensures) (t .if2 .left))
+    ∙ two-called _ (format-read (format (direction k))) (direction-read (direction k)) (first-read k) (more e) (second-read s) (granted (w .is-word2 .ensures) (t .if2 .left))
 
 pub line-agrees-spec : {M : Type 1} → statement M
 line-agrees-spec =

@@ -15,11 +15,18 @@ use Rattle.vectors.proofs.decimals.number_at.Tie as tie
 abbrev text : tie.Start → List ℕ
 text s = s .args .line .now
 
-sign-read : (c : tie.After-known-told) → naturalAt (text (c .before .before .before .before .before)) (c .before .before .before .before .before .args .k) ≡ natural.Value (c .before .sign .given .0 .0)
+-- where the words before were read
+abbrev start : tie.After-known-told → tie.Start
+start c = c .before .before .before .before .before
+
+abbrev sign : tie.After-known-told2 → tie.After-known-told
+sign c = c .before .before .before .before .before
+
+sign-read : (c : tie.After-known-told) → naturalAt (text (start c)) (start c .args .k) ≡ natural.Value (c .before .sign .given .0 .0)
 sign-read c = sym (c .before .before .before .natural .ensures) ∙ c .before .sign .given .1
 
 significand-read :
-    (c : tie.After-known-told2) → naturalAt (text (c .before .before .before .before .before .before .before .before .before .before)) (c .before .before .before .before .before .before .before .before .before .before .args .k + 1) ≡ natural.Value (c .before .significand .given .0 .0)
+    (c : tie.After-known-told2) → naturalAt (text (start (sign c))) (start (sign c) .args .k + 1) ≡ natural.Value (c .before .significand .given .0 .0)
 significand-read c = sym (c .before .before .before .natural2 .ensures) ∙ c .before .significand .given .1
 
 exponent-fits : (c : tie.After-known-told3) → SFits w32 (c .before .exponent .given .0 .0)

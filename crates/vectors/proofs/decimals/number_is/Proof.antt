@@ -17,15 +17,25 @@ use Rattle.vectors.proofs.decimals.number_is.Tie as tie
 abbrev text : tie.Start → List ℕ
 text s = s .args .line .now
 
-marked : (c : tie.Else1) → isWord (text (c .before .before .before .before)) (c .before .before .before .before .args .k) numberMark ≡ true
+-- where the words before were read
+abbrev start : tie.Else1 → tie.Start
+start c = c .before .before .before .before
+
+abbrev mark : tie.Else2 → tie.Else1
+mark c = c .before .before
+
+abbrev whole : tie.After-known-told → tie.Start
+whole c = start (mark (c .before .before .before .before))
+
+marked : (c : tie.Else1) → isWord (text (start c)) (start c .args .k) numberMark ≡ true
 marked c = granted (c .before .is-word .ensures) (c .if1 .left)
 
-ended : (c : tie.Else2) → lastWord (text (c .before .before .before .before .before .before)) ≡ c .before .before .before .before .before .before .args .k + 3
+ended : (c : tie.Else2) → lastWord (text (start (mark c))) ≡ start (mark c) .args .k + 3
 ended c = sym (c .before .last-word .ensures) ∙ c .if2 .left
 
 compared :
     (c : tie.After-known-told)
-    → sameNumber (c .before .before .before .before .before .before .before .before .before .before .args .x) (c .before .y .given .0 .0) ≡ numberIs (text (c .before .before .before .before .before .before .before .before .before .before)) (c .before .before .before .before .before .before .before .before .before .before .args .k) (c .before .before .before .before .before .before .before .before .before .before .args .x)
+    → sameNumber (whole c .args .x) (c .before .y .given .0 .0) ≡ numberIs (text (whole c)) (whole c .args .k) (whole c .args .x)
 compared c = number-compared _ _ _ (marked (c .before .before .before .before .before .before)) (ended (c .before .before .before .before)) (sym (c .before .before .before .number-at .ensures) ∙ c .before .y .given .1)
 
 exponent-fits : (c : tie.Start) → SFits w32 (c .args .x .exponent)
@@ -81,7 +91,7 @@ returns-6 c =
     let m = c .before .before .before .before in
     let s = m .before .before .before in
     let k = s .before .before .before in
-    exponent-decides _ _ (s .if3 .left) (m .if4 .left) (exponent-fits (k .before .before .before .before .before .before .before .before .before .before)) (read-fits c) ∙ compared k
+    exponent-decides _ _ (s .if3 .left) (m .if4 .left) (exponent-fits (whole k)) (read-fits c) ∙ compared k
 
 pub number-is-spec : {M : Type 1} → statement M
 number-is-spec =

@@ -14,16 +14,19 @@ use Rattle.vectors.proofs.decimals.one_agrees.Tie as tie
 abbrev text : tie.Start → List ℕ
 text s = s .args .line .now
 
-not-abs : (c : tie.Else1) → isWord (text (c .before .before .before .before)) 0 absName ≡ false
+abbrev start : tie.Else1 → tie.Start
+start c = c .before .before .before .before
+
+not-abs : (c : tie.Else1) → isWord (text (start c)) 0 absName ≡ false
 not-abs c = sym (c .before .is-word .ensures) ∙ c .if1 .left
 
-not-neg : (c : tie.Else2) → isWord (text (c .before .before .before .before .before .before .before)) 0 negName ≡ false
+not-neg : (c : tie.Else2) → isWord (text (start (c .before .before .before))) 0 negName ≡ false
 not-neg c = sym (c .before .is-word2 .ensures) ∙ c .if2 .left
 
-not-pred : (c : tie.Else3) → isWord (text (c .before .before .before .before .before .before .before .before .before .before)) 0 predName ≡ false
+not-pred : (c : tie.Else3) → isWord (text (start (c .before .before .before .before .before .before))) 0 predName ≡ false
 not-pred c = sym (c .before .is-word3 .ensures) ∙ c .if3 .left
 
-not-succ : (c : tie.Else4) → isWord (text (c .before .before .before .before .before .before .before .before .before .before .before .before .before)) 0 succName ≡ false
+not-succ : (c : tie.Else4) → isWord (text (start (c .before .before .before .before .before .before .before .before .before))) 0 succName ≡ false
 not-succ c = sym (c .before .is-word4 .ensures) ∙ c .if4 .left
 
 slice-aggregate-is-word : tie.Need-slice-aggregate-is-word
@@ -43,7 +46,9 @@ returns c =
     let p = c .before in
     let t = p .before in
     let w = t .before in
-    c .agrees .ensures ∙ ap (hasAnswer (text (w .before .before .before)) 10) (p .magnitude .ensures) ∙ is-abs _ _ _ (sym (w .is-word .ensures) ∙ t .if1 .taken)
+    c .agrees .ensures
+    ∙ ap (hasAnswer (text (w .before .before .before)) 10) (p .magnitude .ensures)
+    ∙ is-abs _ _ _ (sym (w .is-word .ensures) ∙ t .if1 .taken)
 
 slice-aggregate-is-word-2 : tie.Need-slice-aggregate-is-word-2
 slice-aggregate-is-word-2 c = search needs
@@ -63,7 +68,9 @@ returns-2 c =
     let t = p .before in
     let w = t .before in
     let past-abs = w .before .before in
-    c .agrees2 .ensures ∙ ap (hasAnswer (text (w .before .before .before .before .before .before)) 10) (p .negate .ensures) ∙ is-neg _ _ _ (not-abs past-abs) (sym (w .is-word2 .ensures) ∙ t .if2 .taken)
+    c .agrees2 .ensures
+    ∙ ap (hasAnswer (text (start past-abs)) 10) (p .negate .ensures)
+    ∙ is-neg _ _ _ (not-abs past-abs) (sym (w .is-word2 .ensures) ∙ t .if2 .taken)
 
 slice-aggregate-is-word-3 : tie.Need-slice-aggregate-is-word-3
 slice-aggregate-is-word-3 c = search needs
@@ -84,7 +91,9 @@ returns-3 c =
     let w = t .before in
     let past-neg = w .before .before in
     let past-abs = past-neg .before .before .before in
-    c .agrees3 .ensures ∙ ap (hasAnswer (text (w .before .before .before .before .before .before .before .before .before)) 10) (p .predecessor .ensures) ∙ is-pred _ _ _ (not-abs past-abs) (not-neg past-neg) (sym (w .is-word3 .ensures) ∙ t .if3 .taken)
+    c .agrees3 .ensures
+    ∙ ap (hasAnswer (text (start past-abs)) 10) (p .predecessor .ensures)
+    ∙ is-pred _ _ _ (not-abs past-abs) (not-neg past-neg) (sym (w .is-word3 .ensures) ∙ t .if3 .taken)
 
 slice-aggregate-is-word-4 : tie.Need-slice-aggregate-is-word-4
 slice-aggregate-is-word-4 c = search needs
@@ -106,7 +115,9 @@ returns-4 c =
     let past-pred = w .before .before in
     let past-neg = past-pred .before .before .before in
     let past-abs = past-neg .before .before .before in
-    c .agrees4 .ensures ∙ ap (hasAnswer (text (w .before .before .before .before .before .before .before .before .before .before .before .before)) 10) (p .successor .ensures) ∙ is-succ _ _ _ (not-abs past-abs) (not-neg past-neg) (not-pred past-pred) (sym (w .is-word4 .ensures) ∙ t .if4 .taken)
+    c .agrees4 .ensures
+    ∙ ap (hasAnswer (text (start past-abs)) 10) (p .successor .ensures)
+    ∙ is-succ _ _ _ (not-abs past-abs) (not-neg past-neg) (not-pred past-pred) (sym (w .is-word4 .ensures) ∙ t .if4 .taken)
 
 slice-aggregate-is-word-5 : tie.Need-slice-aggregate-is-word-5
 slice-aggregate-is-word-5 c = search needs
@@ -129,7 +140,9 @@ returns-5 c =
     let past-pred = past-succ .before .before .before in
     let past-neg = past-pred .before .before .before in
     let past-abs = past-neg .before .before .before in
-    c .agrees5 .ensures ∙ ap (hasAnswer (text (w .before .before .before .before .before .before .before .before .before .before .before .before .before .before .before)) 10) (p .ufp .ensures) ∙ is-ufp _ _ _ (not-abs past-abs) (not-neg past-neg) (not-pred past-pred) (not-succ past-succ) (sym (w .is-word5 .ensures) ∙ t .if5 .taken)
+    c .agrees5 .ensures
+    ∙ ap (hasAnswer (text (start past-abs)) 10) (p .ufp .ensures)
+    ∙ is-ufp _ _ _ (not-abs past-abs) (not-neg past-neg) (not-pred past-pred) (not-succ past-succ) (sym (w .is-word5 .ensures) ∙ t .if5 .taken)
 
 returns-6 : tie.Need-returns-6
 returns-6 c =

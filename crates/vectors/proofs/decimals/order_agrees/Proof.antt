@@ -15,14 +15,21 @@ use Rattle.vectors.proofs.decimals.order_agrees.Tie as tie
 abbrev text : tie.Start → List ℕ
 text s = s .args .line .now
 
-marked : (c : tie.Else1) → isWord (text (c .before .before .before .before)) 13 orderMark ≡ true
+-- where the words before were read
+abbrev start : tie.Else1 → tie.Start
+start c = c .before .before .before .before
+
+abbrev mark : tie.Else2 → tie.Else1
+mark c = c .before .before
+
+marked : (c : tie.Else1) → isWord (text (start c)) 13 orderMark ≡ true
 marked c = granted (c .before .is-word .ensures) (c .if1 .left)
 
-ended : (c : tie.Else2) → lastWord (text (c .before .before .before .before .before .before)) ≡ 14
+ended : (c : tie.Else2) → lastWord (text (start (mark c))) ≡ 14
 ended c = sym (c .before .last-word .ensures) ∙ c .if2 .left
 
-compared : (c : tie.Else2) → orderSaid (text (c .before .before .before .before .before .before)) (c .before .before .before .before .before .before .args .answer) ≡ hasOrder (text (c .before .before .before .before .before .before)) (c .before .before .before .before .before .before .args .answer)
-compared c = order-compared _ _ (marked (c .before .before)) (ended c)
+compared : (c : tie.Else2) → orderSaid (text (start (mark c))) (start (mark c) .args .answer) ≡ hasOrder (text (start (mark c))) (start (mark c) .args .answer)
+compared c = order-compared _ _ (marked (mark c)) (ended c)
 
 slice-aggregate-is-word : tie.Need-slice-aggregate-is-word
 slice-aggregate-is-word c = search needs
@@ -74,25 +81,25 @@ unfolding orderSaid
 returns-3 c =
     let t = c .before .before in
     let e = t .before .before in
-    c .is-word2 .ensures ∙ ap (orderSaid (text (e .before .before .before .before .before .before))) (sym (t .enum-told .given .1)) ∙ compared e
+    c .is-word2 .ensures ∙ ap (orderSaid (text (start (mark e)))) (sym (t .enum-told .given .1)) ∙ compared e
 
 returns-4 : tie.Need-returns-4
 unfolding orderSaid
 returns-4 c =
     let t = c .before .before in
     let e = t .before .before in
-    c .is-word3 .ensures ∙ ap (orderSaid (text (e .before .before .before .before .before .before))) (sym (t .enum-told2 .given .1)) ∙ compared e
+    c .is-word3 .ensures ∙ ap (orderSaid (text (start (mark e)))) (sym (t .enum-told2 .given .1)) ∙ compared e
 
 returns-5 : tie.Need-returns-5
 unfolding orderSaid
 returns-5 c =
     let t = c .before .before in
     let e = t .before .before in
-    c .is-word4 .ensures ∙ ap (orderSaid (text (e .before .before .before .before .before .before))) (sym (t .enum-told3 .given .1)) ∙ compared e
+    c .is-word4 .ensures ∙ ap (orderSaid (text (start (mark e)))) (sym (t .enum-told3 .given .1)) ∙ compared e
 
 returns-6 : tie.Need-returns-6
 unfolding orderSaid
-returns-6 c = let e = c .before .before in ap (orderSaid (text (e .before .before .before .before .before .before))) (sym (c .enum-told4 .given .1)) ∙ compared e
+returns-6 c = let e = c .before .before in ap (orderSaid (text (start (mark e)))) (sym (c .enum-told4 .given .1)) ∙ compared e
 
 pub order-agrees-spec : {M : Type 1} → statement M
 order-agrees-spec =

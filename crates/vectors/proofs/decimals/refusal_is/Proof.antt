@@ -14,10 +14,17 @@ use Rattle.vectors.proofs.decimals.refusal_is.Tie as tie
 abbrev text : tie.Start → List ℕ
 text s = s .args .line .now
 
-marked : (c : tie.Else1) → isWord (text (c .before .before .before .before)) (c .before .before .before .before .args .k) refusalMark ≡ true
+-- where the words before were read
+abbrev start : tie.Else1 → tie.Start
+start c = c .before .before .before .before
+
+abbrev mark : tie.Else2 → tie.Else1
+mark c = c .before .before
+
+marked : (c : tie.Else1) → isWord (text (start c)) (start c .args .k) refusalMark ≡ true
 marked c = granted (c .before .is-word .ensures) (c .if1 .left)
 
-ended : (c : tie.Else2) → lastWord (text (c .before .before .before .before .before .before)) ≡ c .before .before .before .before .before .before .args .k + 1
+ended : (c : tie.Else2) → lastWord (text (start (mark c))) ≡ start (mark c) .args .k + 1
 ended c = sym (c .before .last-word .ensures) ∙ c .if2 .left
 
 slice-aggregate-is-word : tie.Need-slice-aggregate-is-word

@@ -14,16 +14,19 @@ use Rattle.vectors.proofs.decimals.two_agree.Tie as tie
 abbrev text : tie.Start → List ℕ
 text s = s .args .line .now
 
-not-sum : (c : tie.Else1) → isWord (text (c .before .before .before .before)) 0 sumName ≡ false
+abbrev start : tie.Else1 → tie.Start
+start c = c .before .before .before .before
+
+not-sum : (c : tie.Else1) → isWord (text (start c)) 0 sumName ≡ false
 not-sum c = sym (c .before .is-word .ensures) ∙ c .if1 .left
 
-not-diff : (c : tie.Else2) → isWord (text (c .before .before .before .before .before .before .before)) 0 diffName ≡ false
+not-diff : (c : tie.Else2) → isWord (text (start (c .before .before .before))) 0 diffName ≡ false
 not-diff c = sym (c .before .is-word2 .ensures) ∙ c .if2 .left
 
-not-prod : (c : tie.Else3) → isWord (text (c .before .before .before .before .before .before .before .before .before .before)) 0 prodName ≡ false
+not-prod : (c : tie.Else3) → isWord (text (start (c .before .before .before .before .before .before))) 0 prodName ≡ false
 not-prod c = sym (c .before .is-word3 .ensures) ∙ c .if3 .left
 
-not-quot : (c : tie.Else4) → isWord (text (c .before .before .before .before .before .before .before .before .before .before .before .before .before)) 0 quotName ≡ false
+not-quot : (c : tie.Else4) → isWord (text (start (c .before .before .before .before .before .before .before .before .before))) 0 quotName ≡ false
 not-quot c = sym (c .before .is-word4 .ensures) ∙ c .if4 .left
 
 slice-aggregate-is-word : tie.Need-slice-aggregate-is-word
@@ -43,7 +46,9 @@ returns c =
     let p = c .before in
     let t = p .before in
     let w = t .before in
-    c .agrees .ensures ∙ ap (hasAnswer (text (w .before .before .before)) 13) (p .sum .ensures) ∙ is-sum _ _ _ _ _ (sym (w .is-word .ensures) ∙ t .if1 .taken)
+    c .agrees .ensures
+    ∙ ap (hasAnswer (text (w .before .before .before)) 13) (p .sum .ensures)
+    ∙ is-sum _ _ _ _ _ (sym (w .is-word .ensures) ∙ t .if1 .taken)
 
 slice-aggregate-is-word-2 : tie.Need-slice-aggregate-is-word-2
 slice-aggregate-is-word-2 c = search needs
@@ -63,7 +68,9 @@ returns-2 c =
     let t = p .before in
     let w = t .before in
     let past-sum = w .before .before in
-    c .agrees2 .ensures ∙ ap (hasAnswer (text (w .before .before .before .before .before .before)) 13) (p .difference .ensures) ∙ is-diff _ _ _ _ _ (not-sum past-sum) (sym (w .is-word2 .ensures) ∙ t .if2 .taken)
+    c .agrees2 .ensures
+    ∙ ap (hasAnswer (text (start past-sum)) 13) (p .difference .ensures)
+    ∙ is-diff _ _ _ _ _ (not-sum past-sum) (sym (w .is-word2 .ensures) ∙ t .if2 .taken)
 
 slice-aggregate-is-word-3 : tie.Need-slice-aggregate-is-word-3
 slice-aggregate-is-word-3 c = search needs
@@ -84,7 +91,9 @@ returns-3 c =
     let w = t .before in
     let past-diff = w .before .before in
     let past-sum = past-diff .before .before .before in
-    c .agrees3 .ensures ∙ ap (hasAnswer (text (w .before .before .before .before .before .before .before .before .before)) 13) (p .product .ensures) ∙ is-prod _ _ _ _ _ (not-sum past-sum) (not-diff past-diff) (sym (w .is-word3 .ensures) ∙ t .if3 .taken)
+    c .agrees3 .ensures
+    ∙ ap (hasAnswer (text (start past-sum)) 13) (p .product .ensures)
+    ∙ is-prod _ _ _ _ _ (not-sum past-sum) (not-diff past-diff) (sym (w .is-word3 .ensures) ∙ t .if3 .taken)
 
 slice-aggregate-is-word-4 : tie.Need-slice-aggregate-is-word-4
 slice-aggregate-is-word-4 c = search needs
@@ -106,7 +115,9 @@ returns-4 c =
     let past-prod = w .before .before in
     let past-diff = past-prod .before .before .before in
     let past-sum = past-diff .before .before .before in
-    c .agrees4 .ensures ∙ ap (hasAnswer (text (w .before .before .before .before .before .before .before .before .before .before .before .before)) 13) (p .quotient .ensures) ∙ is-quot _ _ _ _ _ (not-sum past-sum) (not-diff past-diff) (not-prod past-prod) (sym (w .is-word4 .ensures) ∙ t .if4 .taken)
+    c .agrees4 .ensures
+    ∙ ap (hasAnswer (text (start past-sum)) 13) (p .quotient .ensures)
+    ∙ is-quot _ _ _ _ _ (not-sum past-sum) (not-diff past-diff) (not-prod past-prod) (sym (w .is-word4 .ensures) ∙ t .if4 .taken)
 
 slice-aggregate-is-word-5 : tie.Need-slice-aggregate-is-word-5
 slice-aggregate-is-word-5 c = search needs
@@ -129,7 +140,9 @@ returns-5 c =
     let past-prod = past-quot .before .before .before in
     let past-diff = past-prod .before .before .before in
     let past-sum = past-diff .before .before .before in
-    c .order-agrees .ensures ∙ ap (hasOrder (text (w .before .before .before .before .before .before .before .before .before .before .before .before .before .before .before))) (p .compare .ensures) ∙ is-cmp _ _ _ _ _ (not-sum past-sum) (not-diff past-diff) (not-prod past-prod) (not-quot past-quot) (sym (w .is-word5 .ensures) ∙ t .if5 .taken)
+    c .order-agrees .ensures
+    ∙ ap (hasOrder (text (start past-sum))) (p .compare .ensures)
+    ∙ is-cmp _ _ _ _ _ (not-sum past-sum) (not-diff past-diff) (not-prod past-prod) (not-quot past-quot) (sym (w .is-word5 .ensures) ∙ t .if5 .taken)
 
 returns-6 : tie.Need-returns-6
 returns-6 c =

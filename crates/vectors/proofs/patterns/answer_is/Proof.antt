@@ -7,7 +7,8 @@ use native.Mathlib.Omega.{arith}
 use lib.ListN.{length, take, drop}
 use Rattle.vectors.specs.Words.{wordAt}
 use Rattle.vectors.specs.Numerals.{eightDigits}
-use Rattle.vectors.proofs.PatternLineLaws.{first-bytes, last-bytes, word-length, not-sixteen-bytes, no-refusal, no-pattern, refusal-differs, pattern-decides}
+use Rattle.vectors.proofs.WordLaws.{first-bytes, last-bytes, word-length}
+use Rattle.vectors.proofs.PatternLineLaws.{not-sixteen-bytes, no-refusal, no-pattern, refusal-differs, pattern-decides}
 use Rattle.vectors.proofs.patterns.answer_is.Statement.{statement}
 use Rattle.vectors.proofs.patterns.answer_is.Tie as tie
 

@@ -18,19 +18,29 @@ use Rattle.vectors.proofs.patterns.line_agrees.Tie as tie
 abbrev text : tie.Start → List ℕ
 text s = s .args .line .now
 
-direction-read : (c : tie.After-known-told) → naturalAt (text (c .before .before .before .before .before)) 1 ≡ Value (c .before .direction .given .0 .0)
+-- where the words before were read
+abbrev start : tie.After-known-told → tie.Start
+start c = c .before .before .before .before .before
+
+abbrev direction : tie.After-known-told2 → tie.After-known-told
+direction c = c .before .before .before .before
+
+abbrev first : tie.After-known-told3 → tie.After-known-told2
+first c = c .before .before .before .before
+
+direction-read : (c : tie.After-known-told) → naturalAt (text (start c)) 1 ≡ Value (c .before .direction .given .0 .0)
 direction-read c = sym (c .before .before .before .natural .ensures) ∙ c .before .direction .given .1
 
-first-read : (c : tie.After-known-told2) → patternAt (text (c .before .before .before .before .before .before .before .before .before)) 2 ≡ Value (c .before .a .given .0 .0)
+first-read : (c : tie.After-known-told2) → patternAt (text (start (direction c))) 2 ≡ Value (c .before .a .given .0 .0)
 first-read c = sym (c .before .before .before .pattern-at .ensures) ∙ c .before .a .given .1
 
 operands :
     (c : tie.After-known-told3)
-    → Operands (text (c .before .before .before .before .before .before .before .before .before .before .before .before .before)) (c .before .before .before .before .before .before .before .before .before .direction .given .0 .0) (c .before .before .before .before .before .a .given .0 .0) (c .before .b .given .0 .0)
+    → Operands (text (start (direction (first c)))) (direction (first c) .before .direction .given .0 .0) (first c .before .a .given .0 .0) (c .before .b .given .0 .0)
 operands c =
     record {
-      direction = direction-read (c .before .before .before .before .before .before .before .before);
-      first = first-read (c .before .before .before .before);
+      direction = direction-read (direction (first c));
+      first = first-read (first c);
       second = sym (c .before .before .before .pattern-at2 .ensures) ∙ c .before .b .given .1;
     }
 
@@ -38,16 +48,19 @@ operands c =
 abbrev read : tie.Else1 → tie.After-known-told3
 read c = c .before .before .before
 
-arrow-read : (c : tie.Else1) → isWord (text (read c .before .before .before .before .before .before .before .before .before .before .before .before .before)) 4 arrow ≡ true
+abbrev line : tie.Else1 → List ℕ
+line c = text (start (direction (first (read c))))
+
+arrow-read : (c : tie.Else1) → isWord (line c) 4 arrow ≡ true
 arrow-read c = granted (c .before .is-word .ensures) (c .if1 .left)
 
-not-sum : (c : tie.Else2) → isWord (text (read (c .before .before .before) .before .before .before .before .before .before .before .before .before .before .before .before .before)) 0 sumName ≡ false
+not-sum : (c : tie.Else2) → isWord (line (c .before .before .before)) 0 sumName ≡ false
 not-sum c = sym (c .before .is-word2 .ensures) ∙ c .if2 .left
 
-not-difference : (c : tie.Else3) → isWord (text (read (c .before .before .before .before .before .before) .before .before .before .before .before .before .before .before .before .before .before .before .before)) 0 diffName ≡ false
+not-difference : (c : tie.Else3) → isWord (line (c .before .before .before .before .before .before)) 0 diffName ≡ false
 not-difference c = sym (c .before .is-word3 .ensures) ∙ c .if3 .left
 
-not-product : (c : tie.Else4) → isWord (text (read (c .before .before .before .before .before .before .before .before .before) .before .before .before .before .before .before .before .before .before .before .before .before .before)) 0 prodName ≡ false
+not-product : (c : tie.Else4) → isWord (line (c .before .before .before .before .before .before .before .before .before)) 0 prodName ≡ false
 not-product c = sym (c .before .is-word4 .ensures) ∙ c .if4 .left
 
 natural-requires : tie.Need-natural-requires
@@ -87,7 +100,7 @@ returns-3 : tie.Need-returns-3
 returns-3 c =
     let p = c .before .before in
     let k = p .before in
-    no-second _ (direction-read (k .before .before .before .before)) (first-read k) (sym (p .pattern-at2 .ensures) ∙ c .enum-told3 .given .1)
+    no-second _ (direction-read (direction k)) (first-read k) (sym (p .pattern-at2 .ensures) ∙ c .enum-told3 .given .1)
 
 slice-aggregate-is-word : tie.Need-slice-aggregate-is-word
 slice-aggregate-is-word c = search needs
