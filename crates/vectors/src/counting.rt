@@ -6,11 +6,16 @@ use crate::decimals;
 use crate::patterns;
 use crate::words::last_word;
 use libc::STDOUT_FILENO;
-ghost use Prim.Native.Nat.{_≤_};
-ghost use lib.ListN.{length};
+ghost use mathlib.Core.Path.{_≡_};
+ghost use mathlib.Core.Bool.{true, not};
+ghost use Prim.Native.Nat.{_+_, _≤_};
+ghost use lib.ListN.{length, drop};
+ghost use Rattle.vectors.specs.Counting.{linesOf, lineLength, tallyOf, oneMore, more, countWith, withLine};
 
 // n + 1; the greatest number stays.
-fn one_more(n: u64) -> u64 {
+fn one_more(n: u64) -> u64
+    ensures { λ r. ⌜ r ≡ oneMore n ⌝ }
+{
     if n == u64::MAX {
         return n;
     }
@@ -18,7 +23,9 @@ fn one_more(n: u64) -> u64 {
 }
 
 // One line more of a kind.
-fn counted(count: Count, agrees: bool) -> Count {
+fn counted(count: Count, agrees: bool) -> Count
+    ensures { λ r. ⌜ r ≡ countWith true agrees count ⌝ }
+{
     if agrees {
         return Count {
             agree: one_more(count.agree),
@@ -31,8 +38,10 @@ fn counted(count: Count, agrees: bool) -> Count {
     }
 }
 
-// How many lines differ when this one is compared too. The first ten of them are printed.
-fn noted(line: u64, differing: u64, agrees: bool) -> u64 {
+// How many lines differ when this one is compared too. The first ten of them are printed, which the contract does not speak of.
+fn noted(line: u64, differing: u64, agrees: bool) -> u64
+    ensures { λ r. ⌜ r ≡ more (not agrees) differing ⌝ }
+{
     if agrees {
         return differing;
     }
@@ -45,7 +54,9 @@ fn noted(line: u64, differing: u64, agrees: bool) -> u64 {
 }
 
 // One line more.
-fn with_line(tally: Tally, line: &[u8]) -> Tally {
+fn with_line(tally: Tally, line: &[u8]) -> Tally
+    ensures { λ r. ⌜ r ≡ withLine tally (now (line .entry)) ⌝ }
+{
     let number = one_more(tally.lines);
     let binary32 = tally.binary32;
     let decimal = tally.decimal;
@@ -70,7 +81,7 @@ fn with_line(tally: Tally, line: &[u8]) -> Tally {
 // Where the line that begins at `start` ends: at a line feed or at the end of input.
 fn line_end(input: &[u8], start: usize) -> usize
     requires { ⌜ start ≤ length (now input) ⌝ }
-    ensures { λ r. ⌜ (start ≤ r) × (r ≤ length (now (input .entry))) ⌝ }
+    ensures { λ r. ⌜ r ≡ start + lineLength (drop start (now (input .entry))) ⌝ }
 {
     let mut i = start;
     while i < input.len() {
@@ -83,7 +94,9 @@ fn line_end(input: &[u8], start: usize) -> usize
 }
 
 // Every line of the input.
-pub fn of_lines(input: &[u8]) -> Tally {
+pub fn of_lines(input: &[u8]) -> Tally
+    ensures { λ r. ⌜ r ≡ tallyOf (linesOf (now (input .entry))) ⌝ }
+{
     let none = Count { agree: 0, all: 0 };
     let mut tally = Tally {
         lines: 0,
@@ -103,7 +116,7 @@ pub fn of_lines(input: &[u8]) -> Tally {
     tally
 }
 
-// The name of a kind and its count.
+// The name of a kind and its count. It prints and gives nothing back, so that it has no contract.
 pub fn print_count(name: &[u8], count: Count) {
     io::write_all(STDOUT_FILENO, name);
     io::print_decimal(STDOUT_FILENO, count.agree);

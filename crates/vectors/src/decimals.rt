@@ -23,10 +23,14 @@ use number::signs::negate;
 use units::neighbours::predecessor;
 use units::neighbours::successor;
 use units::places::ufp;
+ghost use mathlib.Core.Path.{_≡_};
 ghost use Prim.Native.Nat.{_≤_};
+ghost use Rattle.vectors.specs.DecimalLines.{formatAt, numberAt, numberIs, refusalIs, hasAnswer, hasOrder, oneAgrees, twoAgree, decimalLineAgrees};
 
 // The format in words 1 to 4.
-fn format_of(line: &[u8]) -> Description {
+fn format_of(line: &[u8]) -> Description
+    ensures { λ r. ⌜ r ≡ formatAt (now (line .entry)) ⌝ }
+{
     let Natural::Value(base) = natural(line, 1) else {
         return Description::Malformed;
     };
@@ -50,6 +54,7 @@ fn format_of(line: &[u8]) -> Description {
 // The number in words k to k + 2. The sign is 0 or 1.
 fn number_at(line: &[u8], k: usize) -> Operand
     requires { ⌜ k ≤ 16 ⌝ }
+    ensures { λ r. ⌜ r ≡ numberAt (now (line .entry)) k ⌝ }
 {
     let Natural::Value(sign) = natural(line, k) else {
         return Operand::Malformed;
@@ -73,6 +78,7 @@ fn number_at(line: &[u8], k: usize) -> Operand
 // Are the words from k to the end `n` and this number?
 fn number_is(line: &[u8], k: usize, x: Number) -> bool
     requires { ⌜ k ≤ 13 ⌝ }
+    ensures { λ r. ⌜ r ≡ numberIs (now (line .entry)) k x ⌝ }
 {
     if !is_word(line, k, b"n") {
         return false;
@@ -95,6 +101,7 @@ fn number_is(line: &[u8], k: usize, x: Number) -> bool
 // Are the words from k to the end `r` and this number?
 fn refusal_is(line: &[u8], k: usize, refusal: u32) -> bool
     requires { ⌜ k ≤ 13 ⌝ }
+    ensures { λ r. ⌜ r ≡ refusalIs (now (line .entry)) k refusal ⌝ }
 {
     if !is_word(line, k, b"r") {
         return false;
@@ -111,6 +118,7 @@ fn refusal_is(line: &[u8], k: usize, refusal: u32) -> bool
 // Are the words from k to the end this answer?
 fn agrees(line: &[u8], k: usize, answer: Answer) -> bool
     requires { ⌜ k ≤ 13 ⌝ }
+    ensures { λ r. ⌜ r ≡ hasAnswer (now (line .entry)) k answer ⌝ }
 {
     match answer {
         Answer::Value(x) => number_is(line, k, x),
@@ -119,7 +127,9 @@ fn agrees(line: &[u8], k: usize, answer: Answer) -> bool
 }
 
 // Are the words from 13 to the end this answer? No comparison of the vectors is refused.
-fn order_agrees(line: &[u8], answer: Ordered) -> bool {
+fn order_agrees(line: &[u8], answer: Ordered) -> bool
+    ensures { λ r. ⌜ r ≡ hasOrder (now (line .entry)) answer ⌝ }
+{
     if !is_word(line, 13, b"c") {
         return false;
     }
@@ -135,7 +145,9 @@ fn order_agrees(line: &[u8], answer: Ordered) -> bool {
 }
 
 // The calls that take one number.
-fn one_agrees(line: &[u8], format: Format, x: Number) -> bool {
+fn one_agrees(line: &[u8], format: Format, x: Number) -> bool
+    ensures { λ r. ⌜ r ≡ oneAgrees (now (line .entry)) format x ⌝ }
+{
     if is_word(line, 0, b"abs") {
         return agrees(line, 10, magnitude(format, x));
     }
@@ -155,7 +167,9 @@ fn one_agrees(line: &[u8], format: Format, x: Number) -> bool {
 }
 
 // The calls that take two.
-fn two_agree(line: &[u8], format: Format, direction: u32, a: Number, b: Number) -> bool {
+fn two_agree(line: &[u8], format: Format, direction: u32, a: Number, b: Number) -> bool
+    ensures { λ r. ⌜ r ≡ twoAgree (now (line .entry)) format direction a b ⌝ }
+{
     if is_word(line, 0, b"sum") {
         return agrees(line, 13, sum(format, direction, a, b));
     }
@@ -175,7 +189,9 @@ fn two_agree(line: &[u8], format: Format, direction: u32, a: Number, b: Number) 
 }
 
 // Does the call of a line answer what the line says?
-pub fn line_agrees(line: &[u8]) -> bool {
+pub fn line_agrees(line: &[u8]) -> bool
+    ensures { λ r. ⌜ r ≡ decimalLineAgrees (now (line .entry)) ⌝ }
+{
     let Description::Value(format) = format_of(line) else {
         return false;
     };

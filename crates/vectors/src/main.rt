@@ -1,6 +1,6 @@
 // The published vectors: each line of standard input is a call and its answer. The program makes the call, compares, and prints
-// the first lines that differ and how many of each kind agree. What it prints is compared; its functions are proved to be safe and
-// to end, and their contracts say no more than that asks.
+// the first lines that differ and how many of each kind agree. Its functions are proved to give what a line means: its words and
+// numerals, whether the call answers what the line says, and the counts. What it prints of them is compared.
 mod counting;
 mod decimals;
 mod numerals;

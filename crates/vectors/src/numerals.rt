@@ -2,12 +2,15 @@
 use crate::Integer;
 use crate::Natural;
 use crate::words::word;
-ghost use Prim.Native.Nat.{_≤_, _<_};
+ghost use mathlib.Core.Path.{_≡_};
+ghost use Prim.Native.Nat.{_*_, _≤_, _<_};
 ghost use lib.ListN.{length};
+ghost use lib.Seq.{slice};
+ghost use Rattle.vectors.specs.Numerals.{Base, digitOf, numeral, eightDigits, withSign, naturalAt, integerAt};
 
 // The value of a digit, letters in lower case; 16 for a byte that is none.
 fn digit_value(b: u8) -> u32
-    ensures { λ r. ⌜ r ≤ 16 ⌝ }
+    ensures { λ r. ⌜ r ≡ digitOf b ⌝ }
 {
     let byte = b as u32;
     if 48 <= byte {
@@ -23,10 +26,10 @@ fn digit_value(b: u8) -> u32
     16
 }
 
-// Room for one digit more, in base 16 or else 10.
+// Room for one digit more, in base 16 or 10.
 fn shifted(value: u32, base: u32) -> u32
-    requires { ⌜ value < 268435456 ⌝ }
-    ensures { λ r. ⌜ r ≤ 4294967280 ⌝ }
+    requires { ⌜ Base base × (value < 268435456) ⌝ }
+    ensures { λ r. ⌜ r ≡ value * base ⌝ }
 {
     if base == 16 {
         return value * 16;
@@ -34,10 +37,11 @@ fn shifted(value: u32, base: u32) -> u32
     value * 10
 }
 
-// The numeral in the bytes from `start` up to `end`, in base 16 or else 10. It has a digit, and its value without the last digit is
-// below 2^28. Zeros may lead.
+// The numeral in the bytes from `start` up to `end`, in base 16 or 10. It has a digit, and its value without the last digit is below
+// 2^28. Zeros may lead.
 fn value_of(line: &[u8], start: usize, end: usize, base: u32) -> Natural
-    requires { ⌜ (base ≤ 16) × (end ≤ length (now line)) ⌝ }
+    requires { ⌜ Base base × (end ≤ length (now line)) ⌝ }
+    ensures { λ r. ⌜ r ≡ numeral base (slice start end (now (line .entry))) ⌝ }
 {
     if end <= start {
         return Natural::Malformed;
@@ -61,6 +65,7 @@ fn value_of(line: &[u8], start: usize, end: usize, base: u32) -> Natural
 // Eight hexadecimal digits.
 pub fn eight_digits(line: &[u8], start: usize, end: usize) -> Natural
     requires { ⌜ (start ≤ end) × (end ≤ length (now line)) ⌝ }
+    ensures { λ r. ⌜ r ≡ eightDigits (slice start end (now (line .entry))) ⌝ }
 {
     if end - start != 8 {
         return Natural::Malformed;
@@ -69,13 +74,17 @@ pub fn eight_digits(line: &[u8], start: usize, end: usize) -> Natural
 }
 
 // Word k as a decimal numeral without a sign.
-pub fn natural(line: &[u8], k: usize) -> Natural {
+pub fn natural(line: &[u8], k: usize) -> Natural
+    ensures { λ r. ⌜ r ≡ naturalAt (now (line .entry)) k ⌝ }
+{
     let found = word(line, k);
     value_of(line, found.start, found.end, 10)
 }
 
 // A size with its sign.
-fn signed(negative: bool, size: Natural) -> Integer {
+fn signed(negative: bool, size: Natural) -> Integer
+    ensures { λ r. ⌜ r ≡ withSign negative size ⌝ }
+{
     let Natural::Value(value) = size else {
         return Integer::Malformed;
     };
@@ -90,7 +99,9 @@ fn signed(negative: bool, size: Natural) -> Integer {
 }
 
 // Word k as a decimal numeral that may have a minus sign.
-pub fn integer(line: &[u8], k: usize) -> Integer {
+pub fn integer(line: &[u8], k: usize) -> Integer
+    ensures { λ r. ⌜ r ≡ integerAt (now (line .entry)) k ⌝ }
+{
     let found = word(line, k);
     let start = found.start;
     let end = found.end;

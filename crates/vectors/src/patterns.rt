@@ -11,15 +11,22 @@ use binary32_arithmetic::operations::pattern_product;
 use binary32_arithmetic::operations::pattern_quotient;
 use binary32_arithmetic::operations::pattern_sum;
 use format::refusals::refusal_number;
+ghost use mathlib.Core.Path.{_≡_};
+ghost use Rattle.vectors.specs.Words.{wordAt};
+ghost use Rattle.vectors.specs.PatternLines.{patternAt, isAnswer, hasPattern, patternLineAgrees};
 
 // Word k as a pattern.
-fn pattern_at(line: &[u8], k: usize) -> Natural {
+fn pattern_at(line: &[u8], k: usize) -> Natural
+    ensures { λ r. ⌜ r ≡ patternAt (now (line .entry)) k ⌝ }
+{
     let found = word(line, k);
     eight_digits(line, found.start, found.end)
 }
 
 // Is word 5 this refusal's number and this pattern?
-fn answer_is(line: &[u8], refusal: u32, pattern: u32) -> bool {
+fn answer_is(line: &[u8], refusal: u32, pattern: u32) -> bool
+    ensures { λ r. ⌜ r ≡ isAnswer (wordAt (now (line .entry)) 5) refusal pattern ⌝ }
+{
     let found = word(line, 5);
     let start = found.start;
     let end = found.end;
@@ -40,7 +47,9 @@ fn answer_is(line: &[u8], refusal: u32, pattern: u32) -> bool {
 }
 
 // Is this what the line has after its arrow?
-fn agrees(line: &[u8], answer: Pattern) -> bool {
+fn agrees(line: &[u8], answer: Pattern) -> bool
+    ensures { λ r. ⌜ r ≡ hasPattern (now (line .entry)) answer ⌝ }
+{
     match answer {
         Pattern::Written(pattern) => answer_is(line, 0, pattern),
         Pattern::Refused(why) => answer_is(line, refusal_number(why), 0),
@@ -48,7 +57,9 @@ fn agrees(line: &[u8], answer: Pattern) -> bool {
 }
 
 // Does the call of a line of six words answer what the line says?
-pub fn line_agrees(line: &[u8]) -> bool {
+pub fn line_agrees(line: &[u8]) -> bool
+    ensures { λ r. ⌜ r ≡ patternLineAgrees (now (line .entry)) ⌝ }
+{
     let Natural::Value(direction) = natural(line, 1) else {
         return false;
     };

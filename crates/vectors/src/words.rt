@@ -1,10 +1,12 @@
 // The words of a line. One space stands between two words; where there are more, the words between them are empty.
 use crate::Span;
-ghost use Prim.Native.Nat.{_≤_};
-ghost use lib.ListN.{length};
+ghost use mathlib.Core.Path.{_≡_};
+ghost use Rattle.vectors.specs.Words.{Spans, lastWord, isWord};
 
 // How many spaces a line has, which is the number of its last word: the first is word 0.
-pub fn last_word(line: &[u8]) -> usize {
+pub fn last_word(line: &[u8]) -> usize
+    ensures { λ r. ⌜ r ≡ lastWord (now (line .entry)) ⌝ }
+{
     let mut spaces = 0;
     let mut i = 0;
     while i < line.len() {
@@ -19,7 +21,7 @@ pub fn last_word(line: &[u8]) -> usize {
 
 // Word k; where the line has no such word, its last.
 pub fn word(line: &[u8], k: usize) -> Span
-    ensures { λ r. ⌜ (r .start ≤ r .end) × (r .end ≤ length (now (line .entry))) ⌝ }
+    ensures { λ r. ⌜ Spans (now (line .entry)) k r ⌝ }
 {
     let mut start = 0;
     let mut spaces = 0;
@@ -45,7 +47,9 @@ pub fn word(line: &[u8], k: usize) -> Span
 }
 
 // Is word k this text?
-pub fn is_word(line: &[u8], k: usize, text: &[u8]) -> bool {
+pub fn is_word(line: &[u8], k: usize, text: &[u8]) -> bool
+    ensures { λ r. ⌜ r ≡ isWord (now (line .entry)) k (now (text .entry)) ⌝ }
+{
     let found = word(line, k);
     let start = found.start;
     if found.end - start != text.len() {

@@ -1,18 +1,22 @@
--- `vectors::words::last_word` is safe and ends: there are no more spaces than bytes.
+-- `vectors::words::last_word` meets its contract: the spaces so far and those that are left are those of the line.
 use borrow.Author.Needs.{needs}
-use Prim.Native.Nat.{_-_, _≤_}
-use lib.ListN.{length}
+use Prim.Native.Nat.{_+_, _-_, _≤_}
+use mathlib.Core.Path.{_≡_}
+use native.Mathlib.Omega.{arith}
+use lib.ListN.{length, drop}
+use Rattle.vectors.specs.Words.{lastWord}
+use Rattle.vectors.proofs.WordLaws.{count-space, count-other, count-end}
 use Rattle.vectors.proofs.words.last_word.Statement.{statement}
 use Rattle.vectors.proofs.words.last_word.Tie as tie
 
 abbrev Inv-loop : tie.InvT-loop
-Inv-loop line spaces₀ i₀ spaces i = (spaces ≤ i) × (i ≤ length line)
+Inv-loop line spaces₀ i₀ spaces i = (spaces ≤ i) × (i ≤ length line) × (spaces + lastWord (drop i line) ≡ lastWord line)
 
 abbrev μ-loop : tie.MeasureT-loop
 μ-loop line spaces₀ i₀ spaces i = length line - i
 
 loop-holds : tie.Need-loop-holds Inv-loop μ-loop
-loop-holds c = search needs
+loop-holds c = omega arith
 
 shared-slice-read-b : tie.Need-shared-slice-read-b Inv-loop μ-loop
 shared-slice-read-b c = search needs
@@ -27,16 +31,22 @@ loop-less : tie.Need-loop-less Inv-loop μ-loop
 loop-less c = search needs
 
 loop-again : tie.Need-loop-again Inv-loop μ-loop
-loop-again c = search needs
+loop-again c =
+    let t = c .before .before in
+    let l = t .before in
+    omega (arith, count-space (l .before .args .line .now) (l .loop .i) (t .loop-test .taken) (c .if1 .taken))
 
 loop-less-2 : tie.Need-loop-less-2 Inv-loop μ-loop
 loop-less-2 c = search needs
 
 loop-again-2 : tie.Need-loop-again-2 Inv-loop μ-loop
-loop-again-2 c = search needs
+loop-again-2 c =
+    let t = c .before .before in
+    let l = t .before in
+    omega (arith, count-other (l .before .args .line .now) (l .loop .i) (t .loop-test .taken) (c .if1 .left))
 
 returns : tie.Need-returns Inv-loop μ-loop
-returns c = search needs
+returns c = let l = c .before in omega (arith, count-end (l .before .args .line .now) (l .loop .i) (omega arith))
 
 pub last-word-spec : {M : Type 1} → statement M
 last-word-spec =
