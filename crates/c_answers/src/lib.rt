@@ -1,10 +1,5 @@
-// The engine's answers as the structs and numbers that C sees.
-use crate::CheckAnswer;
-use crate::NumberAnswer;
-use crate::OrderAnswer;
-use crate::PublishedAnswer;
-use crate::SlicesAnswer;
-use crate::TripleAnswer;
+// The engine's answers as C sees them. An answer is a struct whose first field is the refusal's number, 0 for none, and whose other
+// fields are zero at a refusal; a verdict or a pattern is a number.
 use binary32::Pattern;
 use binary32_arithmetic::SliceAnswer;
 use fast_two_sum::Checked;
@@ -18,7 +13,46 @@ use number::Answer;
 use number::Number;
 use number::Ordered;
 ghost use mathlib.Core.Path.{_≡_};
-ghost use Rattle.c_api.specs.Answers.{verdictOut, numberOut, orderOut, publishedOut, stepsOut, checkOut, patternOut, slicesOut};
+ghost use Rattle.c_answers.specs.Answers.{verdictOut, numberOut, orderOut, publishedOut, stepsOut, checkOut, patternOut, slicesOut};
+
+#[repr(C)]
+pub struct NumberAnswer {
+    pub refusal: u32,
+    pub number: Number,
+}
+
+// The order is -1, 0 or 1: less, equal, greater.
+#[repr(C)]
+pub struct OrderAnswer {
+    pub refusal: u32,
+    pub order: i32,
+}
+
+#[repr(C)]
+pub struct PublishedAnswer {
+    pub refusal: u32,
+    pub format: Format,
+}
+
+#[repr(C)]
+pub struct TripleAnswer {
+    pub refusal: u32,
+    pub steps: Steps,
+}
+
+// 1 for yes, 0 for no.
+#[repr(C)]
+pub struct CheckAnswer {
+    pub refusal: u32,
+    pub yes: u32,
+}
+
+// The index of the first refused entry, beside refusals 5 and 9.
+#[repr(C)]
+pub struct SlicesAnswer {
+    pub refusal: u32,
+    pub index: u64,
+}
 
 pub fn verdict_out(verdict: Verdict) -> u32
     ensures { λ r. ⌜ r ≡ verdictOut verdict ⌝ }

@@ -1,11 +1,11 @@
--- `c_api::answers::check_out` meets its contract.
+-- `c_answers::check_out` meets its contract.
 use borrow.Author.Needs.{needs}
 use mathlib.Core.Path.{sym, ap, _∙_}
 use Prim.Native.Nat.{ℕ}
-use Rattle.c_api.specs.Answers.{checkOut}
-use Rattle.c_api.specs.declared.CheckAnswer.{CheckAnswer}
-use Rattle.c_api.proofs.answers.check_out.Statement.{statement}
-use Rattle.c_api.proofs.answers.check_out.Tie as tie
+use Rattle.c_answers.specs.Answers.{checkOut}
+use Rattle.c_answers.specs.declared.CheckAnswer.{CheckAnswer}
+use Rattle.c_answers.proofs.check_out.Statement.{statement}
+use Rattle.c_answers.proofs.check_out.Tie as tie
 
 abbrev refused : ℕ → CheckAnswer
 refused n = record { refusal = n; yes = 0 }

@@ -1,11 +1,11 @@
--- `c_api::answers::slices_out` meets its contract.
+-- `c_answers::slices_out` meets its contract.
 use borrow.Author.Needs.{needs}
 use mathlib.Core.Path.{sym, ap, _∙_}
 use Prim.Native.Nat.{ℕ}
-use Rattle.c_api.specs.Answers.{slicesOut}
-use Rattle.c_api.specs.declared.SlicesAnswer.{SlicesAnswer}
-use Rattle.c_api.proofs.answers.slices_out.Statement.{statement}
-use Rattle.c_api.proofs.answers.slices_out.Tie as tie
+use Rattle.c_answers.specs.Answers.{slicesOut}
+use Rattle.c_answers.specs.declared.SlicesAnswer.{SlicesAnswer}
+use Rattle.c_answers.proofs.slices_out.Statement.{statement}
+use Rattle.c_answers.proofs.slices_out.Tie as tie
 
 abbrev refused : (index n : ℕ) → SlicesAnswer
 refused index n = record { refusal = n; index = index }

@@ -1,12 +1,12 @@
--- `c_api::answers::order_out` meets its contract.
+-- `c_answers::order_out` meets its contract.
 use borrow.Author.Needs.{needs}
 use mathlib.Core.Path.{sym, ap, _∙_}
 use Prim.Native.Nat.{ℕ}
 use lib.IntN.{pos}
-use Rattle.c_api.specs.Answers.{orderOut}
-use Rattle.c_api.specs.declared.OrderAnswer.{OrderAnswer}
-use Rattle.c_api.proofs.answers.order_out.Statement.{statement}
-use Rattle.c_api.proofs.answers.order_out.Tie as tie
+use Rattle.c_answers.specs.Answers.{orderOut}
+use Rattle.c_answers.specs.declared.OrderAnswer.{OrderAnswer}
+use Rattle.c_answers.proofs.order_out.Statement.{statement}
+use Rattle.c_answers.proofs.order_out.Tie as tie
 
 abbrev refused : ℕ → OrderAnswer
 refused n = record { refusal = n; order = pos 0 }

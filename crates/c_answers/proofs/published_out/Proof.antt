@@ -1,11 +1,11 @@
--- `c_api::answers::published_out` meets its contract.
+-- `c_answers::published_out` meets its contract.
 use borrow.Author.Needs.{needs}
 use mathlib.Core.Path.{sym, ap, _∙_}
 use Prim.Native.Nat.{ℕ}
-use Rattle.c_api.specs.Answers.{publishedOut, noFormat}
-use Rattle.c_api.specs.declared.PublishedAnswer.{PublishedAnswer}
-use Rattle.c_api.proofs.answers.published_out.Statement.{statement}
-use Rattle.c_api.proofs.answers.published_out.Tie as tie
+use Rattle.c_answers.specs.Answers.{publishedOut, noFormat}
+use Rattle.c_answers.specs.declared.PublishedAnswer.{PublishedAnswer}
+use Rattle.c_answers.proofs.published_out.Statement.{statement}
+use Rattle.c_answers.proofs.published_out.Tie as tie
 
 abbrev refused : ℕ → PublishedAnswer
 refused n = record { refusal = n; format = noFormat }

@@ -1,10 +1,10 @@
--- `c_api::answers::pattern_out` meets its contract.
+-- `c_answers::pattern_out` meets its contract.
 use borrow.Author.Needs.{needs}
 use mathlib.Core.Path.{sym, ap, _∙_}
 use Prim.Native.Nat.{ℕ, _*_, _^_}
-use Rattle.c_api.specs.Answers.{patternOut}
-use Rattle.c_api.proofs.answers.pattern_out.Statement.{statement}
-use Rattle.c_api.proofs.answers.pattern_out.Tie as tie
+use Rattle.c_answers.specs.Answers.{patternOut}
+use Rattle.c_answers.proofs.pattern_out.Statement.{statement}
+use Rattle.c_answers.proofs.pattern_out.Tie as tie
 
 enum-known-pattern : tie.Need-enum-known-pattern
 enum-known-pattern c = search needs

@@ -1,11 +1,11 @@
--- `c_api::answers::steps_out` meets its contract.
+-- `c_answers::steps_out` meets its contract.
 use borrow.Author.Needs.{needs}
 use mathlib.Core.Path.{sym, ap, _∙_}
 use Prim.Native.Nat.{ℕ}
-use Rattle.c_api.specs.Answers.{stepsOut, noNumber}
-use Rattle.c_api.specs.declared.TripleAnswer.{TripleAnswer}
-use Rattle.c_api.proofs.answers.steps_out.Statement.{statement}
-use Rattle.c_api.proofs.answers.steps_out.Tie as tie
+use Rattle.c_answers.specs.Answers.{stepsOut, noNumber}
+use Rattle.c_answers.specs.declared.TripleAnswer.{TripleAnswer}
+use Rattle.c_answers.proofs.steps_out.Statement.{statement}
+use Rattle.c_answers.proofs.steps_out.Tie as tie
 
 abbrev refused : ℕ → TripleAnswer
 refused n = record { refusal = n; steps = record { x = noNumber; z = noNumber; y = noNumber } }

@@ -21,12 +21,12 @@ use Rattle.binary32.specs.declared.Pattern.{Pattern}
 use Rattle.binary32.specs.declared.Pattern.the-variants as pattern
 use Rattle.binary32_arithmetic.specs.declared.SliceAnswer.{SliceAnswer}
 use Rattle.binary32_arithmetic.specs.declared.SliceAnswer.the-variants as slices
-use Rattle.c_api.specs.declared.NumberAnswer.{NumberAnswer}
-use Rattle.c_api.specs.declared.OrderAnswer.{OrderAnswer}
-use Rattle.c_api.specs.declared.PublishedAnswer.{PublishedAnswer}
-use Rattle.c_api.specs.declared.TripleAnswer.{TripleAnswer}
-use Rattle.c_api.specs.declared.CheckAnswer.{CheckAnswer}
-use Rattle.c_api.specs.declared.SlicesAnswer.{SlicesAnswer}
+use Rattle.c_answers.specs.declared.NumberAnswer.{NumberAnswer}
+use Rattle.c_answers.specs.declared.OrderAnswer.{OrderAnswer}
+use Rattle.c_answers.specs.declared.PublishedAnswer.{PublishedAnswer}
+use Rattle.c_answers.specs.declared.TripleAnswer.{TripleAnswer}
+use Rattle.c_answers.specs.declared.CheckAnswer.{CheckAnswer}
+use Rattle.c_answers.specs.declared.SlicesAnswer.{SlicesAnswer}
 
 abbrev pub noNumber : Number
 noNumber = record { negative = false; significand = 0; exponent = pos 0 }

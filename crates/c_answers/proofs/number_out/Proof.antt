@@ -1,14 +1,14 @@
--- `c_api::answers::number_out` meets its contract.
+-- `c_answers::number_out` meets its contract.
 use borrow.Author.Needs.{needs}
 use mathlib.Core.Path.{sym, ap, _∙_}
 use Prim.Native.Nat.{ℕ}
 use mir.Syntax.{w32}
 use mir.Val.{SFits}
 use Rattle.format.proofs.Signed.{back}
-use Rattle.c_api.specs.Answers.{numberOut, noNumber}
-use Rattle.c_api.specs.declared.NumberAnswer.{NumberAnswer}
-use Rattle.c_api.proofs.answers.number_out.Statement.{statement}
-use Rattle.c_api.proofs.answers.number_out.Tie as tie
+use Rattle.c_answers.specs.Answers.{numberOut, noNumber}
+use Rattle.c_answers.specs.declared.NumberAnswer.{NumberAnswer}
+use Rattle.c_answers.proofs.number_out.Statement.{statement}
+use Rattle.c_answers.proofs.number_out.Tie as tie
 
 abbrev refused : ℕ → NumberAnswer
 refused n = record { refusal = n; number = noNumber }
