@@ -8,12 +8,14 @@ use lib.Dec.{eqb, leb}
 use lib.ListN.{length, length-append}
 use lib.Seq.{length-sets, append-snoc}
 use borrow.Author.Tests.{ne-eqb}
-use Rattle.lines.specs.declared.Line.{Line}
+use Rattle.texts.specs.Texts.{Put}
+use Rattle.texts.proofs.Stores.{put-length}
+use Rattle.line_reading.specs.declared.Line.{Line}
+use Rattle.line_reading.specs.Reading.{isDigit, digitOf, known, bad, fresh, pushed, lineFrom, lineOf}
+use Rattle.line_printing.specs.Printing.{printed, textOf, lineFeed}
+use Rattle.line_printing.proofs.Lengths.{text-room}
 use Rattle.lines.specs.declared.Block.{Block}
-use Rattle.lines.specs.Reading.{isDigit, digitOf, known, bad, fresh, pushed, lineFrom, lineOf}
-use Rattle.lines.specs.Printing.{Put, printed, textOf, lineFeed}
 use Rattle.lines.specs.Blocks.{withFirst, linesOf, printedLines, output, ended, begun, endText, Answered}
-use Rattle.lines.proofs.Stores.{text-room, put-length}
 use Rattle.lines.proofs.LineLaws.{fed-printed}
 
 -- ---- one block after another

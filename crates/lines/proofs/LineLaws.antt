@@ -14,10 +14,10 @@ use Rattle.theory.specs.Tests.{_and_}
 use Rattle.theory.proofs.Tests.{and-left, and-right}
 use Rattle.theory.proofs.Powers.{pow-mono}
 use Rattle.number.specs.Entry.{all}
-use Rattle.lines.specs.declared.Line.{Line}
-use Rattle.lines.specs.Reading.{isDigit, digitOf, isPattern, valueFrom, valueOf, known, bad, fresh, pushed, lineFrom, lineOf}
-use Rattle.lines.specs.Printing.{patternText, printed, textOf, badLine}
-use Rattle.lines.proofs.Digits.{digits, digit-value, digit-small}
+use Rattle.line_reading.specs.declared.Line.{Line}
+use Rattle.line_reading.specs.Reading.{isDigit, digitOf, isPattern, valueFrom, valueOf, known, bad, fresh, pushed, lineFrom, lineOf}
+use Rattle.line_reading.proofs.Digits.{digits, digit-value, digit-small}
+use Rattle.line_printing.specs.Printing.{patternText, printed, textOf, badLine}
 
 pub digit-below : (b : ℕ) → isDigit b ≡ true → digitOf b < 16
 digit-below b h = let d = digits b h in omega (arith, digit-value d, digit-small d)

@@ -14,14 +14,15 @@ use borrow.Author.Tests.{eq-eqb, ne-eqb, ltb-true}
 use Rattle.theory.specs.Tests.{_and_, _or_}
 use Rattle.theory.proofs.Tests.{never, not-true, and-left, and-right, and-made, or-cases}
 use Rattle.number.specs.Entry.{all}
-use Rattle.lines.specs.declared.Line.{Line}
-use Rattle.lines.specs.Reading.{isDigit, digitOf, isPattern, valueFrom, fresh, pushed, lineFrom, lineOf}
-use Rattle.lines.specs.Lanes.{word, Lanewise, Joined, digitAt, digitsOf, fromDigits, lowValue, lowerCase}
-use Rattle.lines.specs.Printing.{glyph, patternText, printed, textOf, lineFeed}
+use Rattle.lanes.specs.Lanes.{word, Lanewise, Joined, digitAt, digitsOf, fromDigits, lowValue, lowerCase}
+use Rattle.lanes.specs.Digits.{glyph}
+use Rattle.lanes.proofs.WordLaws.{row, word-as, word-upto, same-bytes}
+use Rattle.lanes.proofs.LaneLaws.{glyph-byte}
+use Rattle.line_reading.specs.declared.Line.{Line}
+use Rattle.line_reading.specs.Reading.{isDigit, digitOf, isPattern, valueFrom, fresh, pushed, lineFrom, lineOf}
+use Rattle.line_reading.proofs.Digits.{Digit, digits, digit-value, digit-small, bounds}
+use Rattle.line_printing.specs.Printing.{patternText, printed, textOf, lineFeed}
 use Rattle.lines.specs.Blocks.{PatternAt, patternAt, ended, begun}
-use Rattle.lines.proofs.Digits.{Digit, digits, digit-value, digit-small, bounds}
-use Rattle.lines.proofs.WordLaws.{row, word-as, word-upto, same-bytes}
-use Rattle.lines.proofs.LaneLaws.{glyph-byte}
 use Rattle.lines.proofs.LineLaws.{digit-below, fed-printed}
 
 -- ---- a byte that is the letter of its own value is a digit

@@ -6,11 +6,11 @@ use mathlib.Core.List.{List, [], _∷_, _++_}
 use lib.Dec.{eqb, ltb}
 use lib.ListN.{length, getD}
 use lib.Seq.{sets}
-use Rattle.lines.specs.declared.Line.{Line}
+use Rattle.lanes.specs.Lanes.{fromDigits}
+use Rattle.line_reading.specs.declared.Line.{Line}
+use Rattle.line_reading.specs.Reading.{isDigit, digitOf, fresh, pushed}
+use Rattle.line_printing.specs.Printing.{printed, textOf, lineFeed}
 use Rattle.lines.specs.declared.Block.{Block}
-use Rattle.lines.specs.Reading.{isDigit, digitOf, fresh, pushed}
-use Rattle.lines.specs.Lanes.{fromDigits}
-use Rattle.lines.specs.Printing.{printed, textOf, lineFeed}
 
 -- ---- the whole input
 -- a byte that is no line feed stands before the first line, or is a line of its own

@@ -1,5 +1,2 @@
--- What a line is, the line that is printed for it, and input in blocks.
-pub mod Reading
-pub mod Printing
-pub mod Lanes
+-- Input as lines, and input in blocks.
 pub mod Blocks

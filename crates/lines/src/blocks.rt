@@ -1,24 +1,25 @@
 // Whole lines, and input that comes in blocks of any size: a line may begin in one block and end in another.
 use crate::Block;
-use crate::Line;
-use crate::lanes::letters;
-use crate::lanes::lower_case;
-use crate::lanes::pattern_of;
-use crate::lanes::values;
-use crate::lanes::word_at;
-use crate::printing::is_common;
-use crate::printing::put_common;
-use crate::printing::put_line;
-use crate::printing::put_pattern;
-use crate::reading::new_line;
-use crate::reading::push;
-use crate::reading::read_line;
+use common_patterns::is_common;
+use common_patterns::put_common;
+use lanes::letters;
+use lanes::lower_case;
+use lanes::pattern_of;
+use lanes::values;
+use lanes::word_at;
+use line_printing::put_line;
+use line_printing::put_pattern;
+use line_reading::Line;
+use line_reading::new_line;
+use line_reading::push;
+use line_reading::read_line;
 ghost use mathlib.Core.Path.{_≡_};
 ghost use mathlib.Core.Bool.{true};
 ghost use mathlib.Core.List.{_++_};
 ghost use Prim.Native.Nat.{_+_, _*_, _≤_};
 ghost use lib.ListN.{length};
-ghost use Rattle.lines.specs.Printing.{Put, patternText, lineFeed};
+ghost use Rattle.texts.specs.Texts.{Put};
+ghost use Rattle.line_printing.specs.Printing.{patternText, lineFeed};
 ghost use Rattle.lines.specs.Blocks.{Answered, PatternAt, PatternNext, answerLine, endText, patternAt};
 
 // The line that is printed for a line, with its line feed, at the start of `out`, and its length. A slice of fewer than 45

@@ -12,11 +12,11 @@ use borrow.Author.Tests.{eq-eqb, ne-eqb}
 use Rattle.theory.specs.Tests.{_and_}
 use Rattle.vectors.specs.declared.Count.{Count}
 use Rattle.vectors.specs.declared.Tally.{Tally}
-use Rattle.vectors.specs.Words.{withFirst, lastWord}
-use Rattle.vectors.specs.PatternLines.{patternLineAgrees}
-use Rattle.vectors.specs.DecimalLines.{decimalLineAgrees}
+use Rattle.vector_words.specs.Words.{withFirst, lastWord}
+use Rattle.pattern_vectors.specs.PatternLines.{patternLineAgrees}
+use Rattle.decimal_vectors.specs.DecimalLines.{decimalLineAgrees}
 use Rattle.vectors.specs.Counting.{linesOf, lineLength, isPatternLine, isNumberLine, agrees, differs, howMany, tallyOf, oneMore, more, countWith, withLine}
-use Rattle.vectors.proofs.WordLaws.{rest, nothing-left}
+use Rattle.vector_words.proofs.WordLaws.{rest, nothing-left}
 
 -- ---- the first line
 pub length-most : (l : List ℕ) → lineLength l ≤ length l

@@ -1,6 +1,2 @@
--- Laws of words, of numerals, of lines and of counting.
-pub mod WordLaws
-pub mod NumeralLaws
-pub mod PatternLineLaws
-pub mod DecimalLineLaws
+-- Laws of counting.
 pub mod CountingLaws

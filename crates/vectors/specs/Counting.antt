@@ -7,9 +7,9 @@ use lib.ListN.{length}
 use Rattle.theory.specs.Tests.{_and_}
 use Rattle.vectors.specs.declared.Count.{Count}
 use Rattle.vectors.specs.declared.Tally.{Tally}
-use Rattle.vectors.specs.Words.{withFirst, lastWord}
-use Rattle.vectors.specs.PatternLines.{patternLineAgrees}
-use Rattle.vectors.specs.DecimalLines.{decimalLineAgrees}
+use Rattle.vector_words.specs.Words.{withFirst, lastWord}
+use Rattle.pattern_vectors.specs.PatternLines.{patternLineAgrees}
+use Rattle.decimal_vectors.specs.DecimalLines.{decimalLineAgrees}
 
 -- ---- lines
 -- a line ends at a line feed, 10, or at the end of input; where nothing follows the last line feed there is no further line

@@ -2,10 +2,8 @@
 // line that cannot be read is counted too, and differs.
 use crate::Count;
 use crate::Tally;
-use crate::decimals;
-use crate::patterns;
-use crate::words::last_word;
 use libc::STDOUT_FILENO;
+use vector_words::words::last_word;
 ghost use mathlib.Core.Path.{_≡_};
 ghost use mathlib.Core.Bool.{true, not};
 ghost use Prim.Native.Nat.{_+_, _≤_};
@@ -61,7 +59,7 @@ fn with_line(tally: Tally, line: &[u8]) -> Tally
     let binary32 = tally.binary32;
     let decimal = tally.decimal;
     if last_word(line) == 5 {
-        let agrees = patterns::line_agrees(line);
+        let agrees = pattern_vectors::line_agrees(line);
         return Tally {
             lines: number,
             differing: noted(number, tally.differing, agrees),
@@ -69,7 +67,7 @@ fn with_line(tally: Tally, line: &[u8]) -> Tally
             decimal: decimal,
         };
     }
-    let agrees = decimals::line_agrees(line);
+    let agrees = decimal_vectors::line_agrees(line);
     Tally {
         lines: number,
         differing: noted(number, tally.differing, agrees),

@@ -1,45 +1,10 @@
 // The published vectors: each line of standard input is a call and its answer. The program makes the call, compares, and prints
-// the first lines that differ and how many of each kind agree. Its functions are proved to give what a line means: its words and
-// numerals, whether the call answers what the line says, and the counts. What it prints of them is compared.
+// the first lines that differ and how many of each kind agree. What a line means is proved in `vector_words`, `pattern_vectors` and
+// `decimal_vectors`: its words and numerals, and whether the call answers what the line says; the counts are proved here. What is
+// printed of them is compared.
 mod counting;
-mod decimals;
-mod numerals;
-mod patterns;
-mod words;
 
-use format::Format;
 use libc::STDIN_FILENO;
-use number::Number;
-
-// Where a word stands in a line: from `start` up to `end`, not including it.
-struct Span {
-    start: usize,
-    end: usize,
-}
-
-// A numeral without a sign.
-enum Natural {
-    Value(u32),
-    Malformed,
-}
-
-// A numeral that may have a minus sign.
-enum Integer {
-    Value(i32),
-    Malformed,
-}
-
-// A number of a line.
-enum Operand {
-    Value(Number),
-    Malformed,
-}
-
-// The format of a line.
-enum Description {
-    Value(Format),
-    Malformed,
-}
 
 // How many lines of a kind there are, and how many of them agree.
 struct Count {

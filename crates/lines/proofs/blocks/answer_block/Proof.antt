@@ -8,11 +8,13 @@ use native.Mathlib.Omega.{arith}
 use lib.ListN.{length, drop, getD, length-append}
 use lib.Seq.{sets, drop-cons, drop-length}
 use borrow.Author.Tests.{eq-eqb, ne-eqb}
-use Rattle.lines.specs.declared.Line.{Line}
-use Rattle.lines.specs.Reading.{fresh, pushed}
-use Rattle.lines.specs.Printing.{Put, patternText, textOf, lineFeed}
+use Rattle.texts.specs.Texts.{Put}
+use Rattle.texts.proofs.Stores.{sets-append, put-length}
+use Rattle.line_reading.specs.declared.Line.{Line}
+use Rattle.line_reading.specs.Reading.{fresh, pushed}
+use Rattle.line_printing.specs.Printing.{patternText, textOf, lineFeed}
+use Rattle.line_printing.proofs.Lengths.{pattern-room, text-room}
 use Rattle.lines.specs.Blocks.{Answered, PatternAt, patternAt, ended, begun}
-use Rattle.lines.proofs.Stores.{sets-append, put-length, pattern-room, text-room}
 use Rattle.lines.proofs.PatternLines.{pattern-ended, pattern-begun}
 use Rattle.lines.proofs.blocks.answer_block.Statement.{statement}
 use Rattle.lines.proofs.blocks.answer_block.Tie as tie

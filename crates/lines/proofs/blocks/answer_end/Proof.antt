@@ -5,9 +5,9 @@ use mathlib.Core.Bool.{Bool, cond}
 use mathlib.Core.List.{[], _++_}
 use native.Mathlib.Omega.{arith}
 use borrow.Author.Tests.{eq-eqb, ne-eqb}
-use Rattle.lines.specs.Printing.{textOf, lineFeed}
+use Rattle.texts.proofs.Stores.{put-as}
+use Rattle.line_printing.specs.Printing.{textOf, lineFeed}
 use Rattle.lines.specs.Blocks.{endText}
-use Rattle.lines.proofs.Stores.{put-as}
 use Rattle.lines.proofs.blocks.answer_end.Statement.{statement}
 use Rattle.lines.proofs.blocks.answer_end.Tie as tie
 

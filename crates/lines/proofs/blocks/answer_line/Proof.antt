@@ -6,10 +6,11 @@ use mathlib.Core.List.{List, _++_}
 use native.Mathlib.Omega.{arith}
 use lib.ListN.{length}
 use borrow.Author.Tests.{lt-ltb, le-ltb}
-use Rattle.lines.specs.declared.Line.{Line}
-use Rattle.lines.specs.Printing.{Put, textOf, printed, lineFeed}
+use Rattle.texts.specs.Texts.{Put}
+use Rattle.texts.proofs.Stores.{put-as}
+use Rattle.line_reading.specs.declared.Line.{Line}
+use Rattle.line_printing.specs.Printing.{textOf, printed, lineFeed}
 use Rattle.lines.specs.Blocks.{answerLine}
-use Rattle.lines.proofs.Stores.{put-as}
 use Rattle.lines.proofs.LineLaws.{fed-printed}
 use Rattle.lines.proofs.blocks.answer_line.Statement.{statement}
 use Rattle.lines.proofs.blocks.answer_line.Tie as tie

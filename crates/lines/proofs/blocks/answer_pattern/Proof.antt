@@ -3,10 +3,10 @@ use borrow.Author.Needs.{needs}
 use Prim.Native.Nat.{ℕ}
 use mathlib.Core.Path.{_≡_, sym, ap, _∙_}
 use mathlib.Core.List.{_++_}
-use Rattle.lines.specs.Lanes.{Joined, digitsOf}
-use Rattle.lines.specs.Printing.{patternText, lineFeed}
+use Rattle.lanes.specs.Lanes.{Joined, digitsOf}
+use Rattle.texts.proofs.Stores.{put-as}
+use Rattle.line_printing.specs.Printing.{patternText, lineFeed}
 use Rattle.lines.specs.Blocks.{patternAt}
-use Rattle.lines.proofs.Stores.{put-as}
 use Rattle.lines.proofs.PatternLines.{pattern-is, digits-are}
 use Rattle.lines.proofs.blocks.answer_pattern.Statement.{statement}
 use Rattle.lines.proofs.blocks.answer_pattern.Tie as tie

@@ -1,0 +1,2 @@
+-- The places and the neighbours of a number, as patterns.
+pub mod Places

@@ -1,0 +1,1 @@
+-- The answers' proofs need no laws of their own.

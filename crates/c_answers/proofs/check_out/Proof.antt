@@ -1,0 +1,36 @@
+-- `c_answers::check_out` meets its contract.
+use borrow.Author.Needs.{needs}
+use mathlib.Core.Path.{sym, ap, _∙_}
+use Prim.Native.Nat.{ℕ}
+use Rattle.c_answers.specs.Answers.{checkOut}
+use Rattle.c_answers.specs.declared.CheckAnswer.{CheckAnswer}
+use Rattle.c_answers.proofs.check_out.Statement.{statement}
+use Rattle.c_answers.proofs.check_out.Tie as tie
+
+abbrev refused : ℕ → CheckAnswer
+refused n = record { refusal = n; yes = 0 }
+
+enum-told : tie.Need-enum-told
+enum-told c = search needs
+
+enum-told-2 : tie.Need-enum-told-2
+enum-told-2 c = search needs
+
+enum-known-answer : tie.Need-enum-known-answer
+enum-known-answer c = search needs
+
+refusal-number-requires : tie.Need-refusal-number-requires
+refusal-number-requires c κs = search needs
+
+returns : tie.Need-returns
+returns c = sym (ap checkOut (c .enum-told .given .1))
+
+returns-2 : tie.Need-returns-2
+returns-2 c = sym (ap checkOut (c .enum-told2 .given .1))
+
+returns-3 : tie.Need-returns-3
+returns-3 c = ap refused (c .refusal-number .ensures) ∙ sym (ap checkOut (c .before .before .answer .given .1))
+
+pub check-out-spec : {M : Type 1} → statement M
+check-out-spec =
+    tie.close (tie.spec enum-told enum-told-2 enum-known-answer refusal-number-requires returns returns-2 returns-3)

@@ -1,0 +1,36 @@
+-- `c_answers::number_out` meets its contract.
+use borrow.Author.Needs.{needs}
+use mathlib.Core.Path.{sym, ap, _∙_}
+use Prim.Native.Nat.{ℕ}
+use mir.Syntax.{w32}
+use mir.Val.{SFits}
+use Rattle.format.proofs.Signed.{back}
+use Rattle.c_answers.specs.Answers.{numberOut, noNumber}
+use Rattle.c_answers.specs.declared.NumberAnswer.{NumberAnswer}
+use Rattle.c_answers.proofs.number_out.Statement.{statement}
+use Rattle.c_answers.proofs.number_out.Tie as tie
+
+abbrev refused : ℕ → NumberAnswer
+refused n = record { refusal = n; number = noNumber }
+
+enum-known-answer : tie.Need-enum-known-answer
+enum-known-answer c = search needs
+
+enum-known-answer-2 : tie.Need-enum-known-answer-2
+enum-known-answer-2 c = search needs
+
+refusal-number-requires : tie.Need-refusal-number-requires
+refusal-number-requires c κs = search needs
+
+e-fits : (c : tie.After-struct-told) → SFits w32 (c .before .before .answer .given .0 .0 .exponent)
+e-fits c = search needs
+
+returns : tie.Need-returns
+returns c = rw (back (e-fits c)) (sym (ap numberOut (c .before .before .answer .given .1)))
+
+returns-2 : tie.Need-returns-2
+returns-2 c = ap refused (c .refusal-number .ensures) ∙ sym (ap numberOut (c .before .before .answer2 .given .1))
+
+pub number-out-spec : {M : Type 1} → statement M
+number-out-spec =
+    tie.close (tie.spec enum-known-answer enum-known-answer-2 refusal-number-requires returns returns-2)

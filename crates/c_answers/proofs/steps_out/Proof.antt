@@ -1,0 +1,30 @@
+-- `c_answers::steps_out` meets its contract.
+use borrow.Author.Needs.{needs}
+use mathlib.Core.Path.{sym, ap, _∙_}
+use Prim.Native.Nat.{ℕ}
+use Rattle.c_answers.specs.Answers.{stepsOut, noNumber}
+use Rattle.c_answers.specs.declared.TripleAnswer.{TripleAnswer}
+use Rattle.c_answers.proofs.steps_out.Statement.{statement}
+use Rattle.c_answers.proofs.steps_out.Tie as tie
+
+abbrev refused : ℕ → TripleAnswer
+refused n = record { refusal = n; steps = record { x = noNumber; z = noNumber; y = noNumber } }
+
+enum-known-answer : tie.Need-enum-known-answer
+enum-known-answer c = search needs
+
+enum-known-answer-2 : tie.Need-enum-known-answer-2
+enum-known-answer-2 c = search needs
+
+refusal-number-requires : tie.Need-refusal-number-requires
+refusal-number-requires c κs = search needs
+
+returns : tie.Need-returns
+returns c = sym (ap stepsOut (c .before .answer .given .1))
+
+returns-2 : tie.Need-returns-2
+returns-2 c = ap refused (c .refusal-number .ensures) ∙ sym (ap stepsOut (c .before .before .answer2 .given .1))
+
+pub steps-out-spec : {M : Type 1} → statement M
+steps-out-spec =
+    tie.close (tie.spec enum-known-answer enum-known-answer-2 refusal-number-requires returns returns-2)

@@ -1,0 +1,2 @@
+-- Laws of the line for a common pattern.
+pub mod PatternText

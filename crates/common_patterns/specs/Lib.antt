@@ -1,0 +1,2 @@
+-- Common patterns.
+pub mod Common

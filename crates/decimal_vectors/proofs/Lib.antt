@@ -1,0 +1,2 @@
+-- Laws of lines of numbers.
+pub mod DecimalLineLaws

@@ -1,0 +1,2 @@
+-- Lines of numbers.
+pub mod DecimalLines

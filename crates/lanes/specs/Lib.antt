@@ -1,0 +1,3 @@
+-- Hexadecimal digits as text, and eight bytes in one word.
+pub mod Digits
+pub mod Lanes

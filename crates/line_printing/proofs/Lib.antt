@@ -1,0 +1,2 @@
+-- Laws of the longest texts.
+pub mod Lengths

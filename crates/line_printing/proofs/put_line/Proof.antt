@@ -1,0 +1,52 @@
+-- `line_printing::put_line` meets its contract.
+use borrow.Author.Needs.{needs}
+use mathlib.Core.Path.{sym, ap}
+use mathlib.Core.Bool.{Bool, cond}
+use mathlib.Core.List.{_++_}
+use borrow.Author.Tests.{eq-eqb, ne-eqb}
+use Rattle.texts.proofs.Stores.{put-as}
+use Rattle.line_printing.specs.Printing.{patternText, badLine, textOf, lineFeed}
+use Rattle.line_printing.proofs.put_line.Statement.{statement}
+use Rattle.line_printing.proofs.put_line.Tie as tie
+
+put-pattern-requires : tie.Need-put-pattern-requires
+put-pattern-requires c κs = search needs
+
+same-length : tie.Need-same-length
+same-length c = search needs
+
+returns : tie.Need-returns
+unfolding textOf
+returns c =
+    let p = c .before .before in
+    let l = p .before .before .before .before .before .args .line in
+    put-as (ap (λ (t : Bool). cond t (patternText (l .value)) badLine ++ lineFeed) (sym (eq-eqb _ _ (p .before .before .if1 .taken)))) (p .put-pattern .ensures)
+
+slice-aggregate-put-text : tie.Need-slice-aggregate-put-text
+slice-aggregate-put-text c = search needs
+
+put-text-requires : tie.Need-put-text-requires
+put-text-requires c κs = search needs
+
+same-length-2 : tie.Need-same-length-2
+same-length-2 c = search needs
+
+returns-2 : tie.Need-returns-2
+unfolding textOf
+returns-2 c =
+    let p = c .before .before in
+    let e = p .before .before .before in
+    let l = e .before .before .before .args .line in
+    put-as (ap (λ (t : Bool). cond t (patternText (l .value)) badLine ++ lineFeed) (sym (ne-eqb _ _ (e .if1 .left)))) (p .put-text .ensures)
+
+pub put-line-spec : {M : Type 1} → statement M
+put-line-spec =
+    tie.close
+    (tie.spec
+    put-pattern-requires
+    same-length
+    returns
+    slice-aggregate-put-text
+    put-text-requires
+    same-length-2
+    returns-2)

@@ -1,0 +1,2 @@
+-- What a line is that is read.
+pub mod Reading

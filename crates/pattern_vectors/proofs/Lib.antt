@@ -1,0 +1,2 @@
+-- Laws of lines of patterns.
+pub mod PatternLineLaws

@@ -1,0 +1,2 @@
+-- Lines of patterns.
+pub mod PatternLines

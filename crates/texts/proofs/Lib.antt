@@ -1,0 +1,2 @@
+-- Laws of texts stored one after the other.
+pub mod Stores

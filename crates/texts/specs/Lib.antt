@@ -1,0 +1,2 @@
+-- A text stored in a list.
+pub mod Texts

@@ -1,0 +1,3 @@
+-- Laws of words and of numerals.
+pub mod WordLaws
+pub mod NumeralLaws
