@@ -23,10 +23,10 @@ use Rattle.number.specs.declared.Number.{Number}
 use Rattle.number.specs.declared.Answer.{Answer}
 use Rattle.number.specs.Exponents.{belowZero}
 use Rattle.number.specs.Numbers.{greatest}
-use Rattle.arithmetic.specs.Operations.{summed, subtracted, multiplied}
+use Rattle.arithmetic.specs.Operations.{roundedSum, roundedDifference, roundedProduct}
 use Rattle.rump.specs.Steps.{one, Has, Gives}
 use Rattle.rump.proofs.Reach.{First, one-positive, power-most, constant-most}
-use Rattle.rump.proofs.Steps.{by-zero, renamed, sum-gives, difference-gives, product-gives}
+use Rattle.rump.proofs.Steps.{renamed, sum-gives, difference-gives, product-gives}
 
 module _ {f : Format} {n : ℕ} (k : First f n) where
   ok : Positional (f .base) (f .digits)
@@ -46,9 +46,9 @@ module _ {f : Format} {n : ℕ} (k : First f n) where
       let within = power-most (k .admits) (f .digits + spare) (omega (arith, k .reach .low, k .reach .span)) in
       rw (one-is, below-one-is ok spare) (omega (arith, mul-le-mul-right (f .base ^ spare) digits, pow-add (f .base) (f .digits) spare, within))
 
-  pub below-one-gives : {a b : Number} {r : Answer} → Has f a (pos (one f)) → Has f b (pos 1) → r ≡ subtracted f 2 a b → Gives f r (below-one (f .base) (f .digits) (one f))
+  pub below-one-gives : {a b : Number} {r : Answer} → Has f a (pos (one f)) → Has f b (pos 1) → r ≡ roundedDifference f toward-zero a b → Gives f r (below-one (f .base) (f .digits) (one f))
   unfolding below-one
-  below-one-gives x y e = difference-gives (k .admits) by-zero x y below-one-most e
+  below-one-gives x y e = difference-gives (k .admits) toward-zero x y below-one-most e
 
   -- ---- line 3, φ = β ^ (p - 1) + 1
   abbrev phi : ℕ
@@ -66,8 +66,8 @@ module _ {f : Format} {n : ℕ} (k : First f n) where
       sum-toward-zero ok (f .base ^ (f .digits - 1) * one f) (one f)
       ∙ ap pos (ap (lower (f .base) (f .digits)) (omega arith) ∙ lower-exact ok phi (wide-phi ok (belowZero (f .emin))))
 
-  pub phi-gives : {a b : Number} {r : Answer} → Has f a (pos (f .base ^ (f .digits - 1) * one f)) → Has f b (pos (one f)) → r ≡ summed f 2 a b → Gives f r (pos phi)
-  phi-gives x y e = renamed (sum-gives (k .admits) by-zero x y (rw phi-is phi-most) e) phi-is
+  pub phi-gives : {a b : Number} {r : Answer} → Has f a (pos (f .base ^ (f .digits - 1) * one f)) → Has f b (pos (one f)) → r ≡ roundedSum f toward-zero a b → Gives f r (pos phi)
+  phi-gives x y e = renamed (sum-gives (k .admits) toward-zero x y (rw phi-is phi-most) e) phi-is
 
   -- ---- line 4, q = φ f
   ufp-most : ufp (f .base) n ≤ f .base ^ (highestPlace f - f .digits)
@@ -97,24 +97,24 @@ module _ {f : Format} {n : ℕ} (k : First f n) where
   abbrev q : ℤ
   q = scaled-up (f .base) (f .digits) (one f) n
 
-  pub scaled-gives : {a b : Number} {r : Answer} → Has f a (pos phi) → Has f b (pos n) → r ≡ multiplied f 2 a b → Gives f r q
+  pub scaled-gives : {a b : Number} {r : Answer} → Has f a (pos phi) → Has f b (pos n) → r ≡ roundedProduct f toward-zero a b → Gives f r q
   unfolding scaled-up
-  scaled-gives x y e = product-gives (k .admits) by-zero x y (k .reach .not-above) (rw (scaled-up-is ok (one f) n (one-positive (k .admits))) scaled-most) e
+  scaled-gives x y e = product-gives (k .admits) toward-zero x y (k .reach .not-above) (rw (scaled-up-is ok (one f) n (one-positive (k .admits))) scaled-most) e
 
   -- ---- line 5, p1 q and S = q - p1 q
   abbrev shrunk : ℤ
   shrunk = product (f .base) (f .digits) toward-zero (one f) (below-one (f .base) (f .digits) (one f)) q
 
-  pub shrunk-gives : {a b : Number} {r : Answer} → Has f a (below-one (f .base) (f .digits) (one f)) → Has f b q → r ≡ multiplied f 2 a b → Gives f r shrunk
+  pub shrunk-gives : {a b : Number} {r : Answer} → Has f a (below-one (f .base) (f .digits) (one f)) → Has f b q → r ≡ roundedProduct f toward-zero a b → Gives f r shrunk
   shrunk-gives x y e =
-      product-gives (k .admits) by-zero x y (k .reach .not-above) (rw (one-is, shrunk-is ok spare n) (omega (arith, scaled-most))) e
+      product-gives (k .admits) toward-zero x y (k .reach .not-above) (rw (one-is, shrunk-is ok spare n) (omega (arith, scaled-most))) e
 
   first-is : difference (f .base) (f .digits) toward-zero q shrunk ≡ pos (ufp (f .base) n)
   unfolding ufp-toward-zero
   first-is = rw one-is (ufp-toward-zero-is ok spare n)
 
-  pub first-gives : {a b : Number} {r : Answer} → Has f a q → Has f b shrunk → r ≡ subtracted f 2 a b → Gives f r (pos (ufp (f .base) n))
-  first-gives x y e = renamed (difference-gives (k .admits) by-zero x y (rw first-is (omega (arith, ufp-most, within))) e) first-is
+  pub first-gives : {a b : Number} {r : Answer} → Has f a q → Has f b shrunk → r ≡ roundedDifference f toward-zero a b → Gives f r (pos (ufp (f .base) n))
+  first-gives x y e = renamed (difference-gives (k .admits) toward-zero x y (rw first-is (omega (arith, ufp-most, within))) e) first-is
     where
       within : f .base ^ (highestPlace f - f .digits) ≤ greatest f
       within = power-most (k .admits) (highestPlace f - f .digits) (omega arith)

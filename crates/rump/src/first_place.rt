@@ -1,10 +1,11 @@
-// Rump's route to the first place (figure 1), in direction 2, toward zero.
+// Rump's route to the first place (figure 1), rounded toward zero.
 use crate::constants::power;
 use crate::constants::subrealmin;
 use crate::premises::first_premise;
-use arithmetic::product::product;
-use arithmetic::sum::difference;
-use arithmetic::sum::sum;
+use arithmetic::product::multiply;
+use arithmetic::sum::add;
+use arithmetic::sum::subtract;
+use format::Direction;
 use format::Format;
 use format::Preparation;
 use format::Prepared;
@@ -12,7 +13,7 @@ use format::Refusal;
 use number::Answer;
 use number::Number;
 use number::entry::enter;
-use number::signs::magnitude;
+use number::signs::with_sign;
 ghost use mathlib.Core.Path.{_≡_};
 ghost use mathlib.Core.Bool.{true, false};
 ghost use lib.IntN.{pos};
@@ -29,13 +30,12 @@ fn scaled(prepared: Prepared, f: Number) -> Answer
     requires { ⌜ Usable prepared × Has (prepared .format) f (pos (numbers.magnitude (prepared .format) f)) × (firstPremise (prepared .format) f ≡ true) ⌝ }
     ensures { λ r. ⌜ Gives (prepared .format) r (scaled-up (prepared .format .base) (prepared .format .digits) (one (prepared .format)) (numbers.magnitude (prepared .format) f)) ⌝ }
 {
-    let format = prepared.format;
     let lead = power(prepared, prepared.scale.digits - 1);
-    let raised = sum(format, 2, lead, power(prepared, 0));
+    let raised = add(prepared, Direction::TowardZero, lead, power(prepared, 0));
     let Answer::Value(phi) = raised else {
         return raised;
     };
-    product(format, 2, phi, f)
+    multiply(prepared, Direction::TowardZero, phi, f)
 }
 
 // Lines 2 and 5: p1 = 1 - subrealmin, S = q - p1 * q, for f = |x|.
@@ -43,24 +43,21 @@ fn ufp_steps(prepared: Prepared, x: Number) -> Answer
     requires { ⌜ Usable prepared × (numbers.member (prepared .format) x ≡ true) × (firstPremise (prepared .format) x ≡ true) ⌝ }
     ensures { λ r. ⌜ r ≡ Value (numbers.number (prepared .format) false (ufp (prepared .format .base) (numbers.magnitude (prepared .format) x))) ⌝ }
 {
-    let format = prepared.format;
-    let below = difference(format, 2, power(prepared, 0), subrealmin(prepared));
+    let one = power(prepared, 0);
+    let below = subtract(prepared, Direction::TowardZero, one, subrealmin(prepared));
     let Answer::Value(p1) = below else {
         return below;
     };
-    let size = magnitude(format, x);
-    let Answer::Value(f) = size else {
-        return size;
-    };
+    let f = with_sign(x, false);
     let enlarged = scaled(prepared, f);
     let Answer::Value(q) = enlarged else {
         return enlarged;
     };
-    let shrunk = product(format, 2, p1, q);
+    let shrunk = multiply(prepared, Direction::TowardZero, p1, q);
     let Answer::Value(r) = shrunk else {
         return shrunk;
     };
-    difference(format, 2, q, r)
+    subtract(prepared, Direction::TowardZero, q, r)
 }
 
 // ufp(x) by operations alone. Refuses 1, 3, 8.

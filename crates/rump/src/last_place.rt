@@ -2,9 +2,10 @@
 use crate::constants::power;
 use crate::constants::subrealmin;
 use crate::premises::last_premise;
-use arithmetic::product::product;
-use arithmetic::sum::difference;
-use arithmetic::sum::sum;
+use arithmetic::product::multiply;
+use arithmetic::sum::add;
+use arithmetic::sum::subtract;
+use format::Direction;
 use format::Format;
 use format::Preparation;
 use format::Prepared;
@@ -13,8 +14,8 @@ use number::Answer;
 use number::Number;
 use number::Ordered;
 use number::entry::enter;
-use number::order::compare;
-use number::signs::magnitude;
+use number::order::compare_values;
+use number::signs::with_sign;
 ghost use mathlib.Core.Path.{_≡_};
 ghost use mathlib.Core.Bool.{true, false};
 ghost use lib.IntN.{pos};
@@ -26,34 +27,29 @@ ghost use Rattle.number.specs.Numbers as numbers;
 ghost use Rattle.rump.specs.Steps.{Has, Gives};
 ghost use Rattle.rump.specs.Routes.{lastPremise, ulpRoute};
 
-// Figure 3: S = (f + subrealmin) - f, in direction 3, up.
+// Figure 3: S = (f + subrealmin) - f, rounded up.
 fn upward_steps(prepared: Prepared, x: Number) -> Answer
     requires { ⌜ Usable prepared × (numbers.member (prepared .format) x ≡ true) × (lastPremise (prepared .format) x ≡ true) ⌝ }
     ensures { λ r. ⌜ r ≡ Value (numbers.number (prepared .format) false (ulp (prepared .format .base) (prepared .format .digits) (numbers.magnitude (prepared .format) x))) ⌝ }
 {
-    let format = prepared.format;
-    let size = magnitude(format, x);
-    let Answer::Value(f) = size else {
-        return size;
-    };
-    let next = sum(format, 3, f, subrealmin(prepared));
+    let f = with_sign(x, false);
+    let next = add(prepared, Direction::Upward, f, subrealmin(prepared));
     let Answer::Value(s) = next else {
         return next;
     };
-    difference(format, 3, s, f)
+    subtract(prepared, Direction::Upward, s, f)
 }
 
-// Figures 4 and 5, lines 3 and 4: S = f - (f - subrealmin), in direction 2, toward zero.
+// Figures 4 and 5, lines 3 and 4: S = f - (f - subrealmin), rounded toward zero.
 fn gap(prepared: Prepared, f: Number) -> Answer
     requires { ⌜ Usable prepared × Has (prepared .format) f (pos (numbers.magnitude (prepared .format) f)) × (lastPremise (prepared .format) f ≡ true) ⌝ }
     ensures { λ r. ⌜ Gives (prepared .format) r (gap-below (prepared .format .base) (prepared .format .digits) (numbers.magnitude (prepared .format) f)) ⌝ }
 {
-    let format = prepared.format;
-    let preceding = difference(format, 2, f, subrealmin(prepared));
+    let preceding = subtract(prepared, Direction::TowardZero, f, subrealmin(prepared));
     let Answer::Value(p) = preceding else {
         return preceding;
     };
-    difference(format, 2, f, p)
+    subtract(prepared, Direction::TowardZero, f, p)
 }
 
 // Figure 4: S, or base * S where f + S gives f.
@@ -61,22 +57,18 @@ fn toward_zero_steps(prepared: Prepared, x: Number) -> Answer
     requires { ⌜ Usable prepared × (numbers.member (prepared .format) x ≡ true) × (lastPremise (prepared .format) x ≡ true) ⌝ }
     ensures { λ r. ⌜ r ≡ Value (numbers.number (prepared .format) false (ulp (prepared .format .base) (prepared .format .digits) (numbers.magnitude (prepared .format) x))) ⌝ }
 {
-    let format = prepared.format;
-    let size = magnitude(format, x);
-    let Answer::Value(f) = size else {
-        return size;
-    };
+    let f = with_sign(x, false);
     let found = gap(prepared, f);
     let Answer::Value(s) = found else {
         return found;
     };
-    let raised = sum(format, 2, f, s);
+    let raised = add(prepared, Direction::TowardZero, f, s);
     let Answer::Value(next) = raised else {
         return raised;
     };
-    match compare(format, next, f) {
+    match compare_values(prepared.format, next, f) {
         Ordered::Less => Answer::Value(s),
-        Ordered::Equal => product(format, 2, power(prepared, 1), s),
+        Ordered::Equal => multiply(prepared, Direction::TowardZero, power(prepared, 1), s),
         Ordered::Greater => Answer::Value(s),
         Ordered::Refused(why) => Answer::Refused(why),
     }
@@ -88,16 +80,15 @@ fn defect(prepared: Prepared, f: Number, s: Number) -> Answer
         × Has (prepared .format) s (gap-below (prepared .format .base) (prepared .format .digits) (numbers.magnitude (prepared .format) f)) ⌝ }
     ensures { λ r. ⌜ Gives (prepared .format) r (gap-defect (prepared .format .base) (prepared .format .digits) (numbers.magnitude (prepared .format) f)) ⌝ }
 {
-    let format = prepared.format;
-    let raised = sum(format, 2, f, s);
+    let raised = add(prepared, Direction::TowardZero, f, s);
     let Answer::Value(next) = raised else {
         return raised;
     };
-    let lowered = difference(format, 2, next, f);
+    let lowered = subtract(prepared, Direction::TowardZero, next, f);
     let Answer::Value(back) = lowered else {
         return lowered;
     };
-    difference(format, 2, back, s)
+    subtract(prepared, Direction::TowardZero, back, s)
 }
 
 // Figure 5: S - (base - 1) * d.
@@ -105,15 +96,12 @@ fn unbranched_steps(prepared: Prepared, x: Number) -> Answer
     requires { ⌜ Usable prepared × (numbers.member (prepared .format) x ≡ true) × (lastPremise (prepared .format) x ≡ true) ⌝ }
     ensures { λ r. ⌜ r ≡ Value (numbers.number (prepared .format) false (ulp (prepared .format .base) (prepared .format .digits) (numbers.magnitude (prepared .format) x))) ⌝ }
 {
-    let format = prepared.format;
-    let less = difference(format, 2, power(prepared, 1), power(prepared, 0));
+    let base = power(prepared, 1);
+    let less = subtract(prepared, Direction::TowardZero, base, power(prepared, 0));
     let Answer::Value(factor) = less else {
         return less;
     };
-    let size = magnitude(format, x);
-    let Answer::Value(f) = size else {
-        return size;
-    };
+    let f = with_sign(x, false);
     let found = gap(prepared, f);
     let Answer::Value(s) = found else {
         return found;
@@ -122,11 +110,11 @@ fn unbranched_steps(prepared: Prepared, x: Number) -> Answer
     let Answer::Value(d) = off else {
         return off;
     };
-    let correction = product(format, 2, factor, d);
+    let correction = multiply(prepared, Direction::TowardZero, factor, d);
     let Answer::Value(c) = correction else {
         return correction;
     };
-    difference(format, 2, s, c)
+    subtract(prepared, Direction::TowardZero, s, c)
 }
 
 // ulp(x) by operations alone, rounded up. Refuses 1, 3, 8.

@@ -4,7 +4,7 @@ use lib.IntN.{pos}
 use Rattle.theory.specs.Round.{toward-zero}
 use Rattle.theory.specs.Rump.{difference}
 use Rattle.number.specs.Numbers.{magnitude}
-use Rattle.rump.specs.Steps.{Gives}
+use Rattle.rump.specs.Steps.{Has, Gives}
 use Rattle.rump.proofs.Reach.{Last, last}
 use Rattle.rump.proofs.Steps.{taken, not-refused}
 use Rattle.rump.proofs.LastFigures.{before-gives, gap-gives}
@@ -14,19 +14,19 @@ use Rattle.rump.proofs.last_place.gap.Tie as tie
 subrealmin-requires : tie.Need-subrealmin-requires
 subrealmin-requires c κs = search needs
 
+subtract-requires : tie.Need-subtract-requires
+subtract-requires c κs = let s = c .before in (s .pre .0, s .pre .1 .number, c .subrealmin .ensures .number)
+
 -- ---- the number before f
-abbrev start : tie.After-difference → tie.Start
-start c = c .before .before .before
+abbrev start : tie.After-subtract → tie.Start
+start c = c .before .before
 
 last-of : (s : tie.Start) → Last (s .args .prepared .format) (magnitude (s .args .prepared .format) (s .args .f))
 last-of s = last (s .pre .0) (s .args .f) (s .pre .1 .number) (s .pre .2)
 
-preceding-given : (c : tie.After-difference) → let s = start c .args in let f = s .prepared .format in
-    Gives f (c .difference .result) (difference (f .base) (f .digits) toward-zero (pos (magnitude f (s .f))) (pos 1))
-preceding-given c = let s = start c in before-gives (last-of s) (s .pre .1) (c .before .subrealmin .ensures) (c .difference .ensures)
-
-difference-requires : tie.Need-difference-requires
-difference-requires c κs = search needs
+preceding-given : (c : tie.After-subtract) → let s = start c .args in let f = s .prepared .format in
+    Gives f (c .subtract .result) (difference (f .base) (f .digits) toward-zero (pos (magnitude f (s .f))) (pos 1))
+preceding-given c = let s = start c in before-gives (last-of s) (s .pre .1) (c .before .subrealmin .ensures) (c .subtract .ensures)
 
 enum-known-preceding : tie.Need-enum-known-preceding
 enum-known-preceding c = search needs
@@ -37,24 +37,30 @@ enum-told c = search needs
 returns : tie.Need-returns
 returns c = absurd (not-refused (preceding-given (c .before .before)) (c .enum-told .given .1))
 
-difference-requires-2 : tie.Need-difference-requires-2
-difference-requires-2 c κs = search needs
+preceding-has : (c : tie.After-preceding) → let s = start (c .before .before) .args in let f = s .prepared .format in
+    Has f (c .preceding .given .0 .0) (difference (f .base) (f .digits) toward-zero (pos (magnitude f (s .f))) (pos 1))
+preceding-has c = taken (preceding-given (c .before .before)) (c .preceding .given .1)
+
+subtract-requires-2 : tie.Need-subtract-requires-2
+subtract-requires-2 c κs =
+    let p = c .before in
+    let s = start (p .before .before) in
+    (s .pre .0, s .pre .1 .number, preceding-has p .number)
 
 returns-2 : tie.Need-returns-2
 returns-2 c =
     let p = c .before .before in
-    let m = p .before .before in
-    let s = start m in
-    gap-gives (last-of s) (s .pre .1) (taken (preceding-given m) (p .preceding .given .1)) (c .difference2 .ensures)
+    let s = start (p .before .before) in
+    gap-gives (last-of s) (s .pre .1) (preceding-has p) (c .subtract2 .ensures)
 
 pub gap-spec : {M : Type 1} → statement M
 gap-spec =
     tie.close
     (tie.spec
     subrealmin-requires
-    difference-requires
+    subtract-requires
     enum-known-preceding
     enum-told
     returns
-    difference-requires-2
+    subtract-requires-2
     returns-2)

@@ -70,7 +70,7 @@ returns-2 c =
     let b = c .before in
     let s = start (b .before) in
     let f = s .args .prepared .format in
-    c .is-smaller .ensures ∙ ap (ltb (magnitude f (s .args .x))) (has-size (known (s .pre .0) .admits) (bound b)) ∙ first-by f (s .args .x) (suffice (b .before))
+    c .is-smaller .ensures ∙ ap (ltb (magnitude f (s .args .x))) (has-size (bound b)) ∙ first-by f (s .args .x) (suffice (b .before))
 
 pub first-premise-spec : {M : Type 1} → statement M
 first-premise-spec =

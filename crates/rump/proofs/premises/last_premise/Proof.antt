@@ -88,7 +88,7 @@ returns-3 c =
     let f = s .args .prepared .format in
     let x = s .args .x in
     let a = known (s .pre .0) .admits in
-    c .is-smaller .ensures ∙ ap (ltb (magnitude f x)) (has-size a (top n))
+    c .is-smaller .ensures ∙ ap (ltb (magnitude f x)) (has-size (top n))
     ∙ last-by f x (suffice (e .before)) (some f x (a .base-low) (e .if2 .left)) (member-greatest a (members x a (s .pre .1)))
 
 pub last-premise-spec : {M : Type 1} → statement M
