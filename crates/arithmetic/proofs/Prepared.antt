@@ -10,6 +10,7 @@ use borrow.Author.Tests.{eq-eqb, ne-eqb}
 use Rattle.theory.specs.Round.{round}
 use Rattle.theory.specs.Round as theory
 use Rattle.theory.specs.Signed.{is-negative}
+use Rattle.theory.specs.Wide.{Canonical}
 use Rattle.theory.proofs.Powers.{pow-pos}
 use Rattle.theory.proofs.Integers.{above, below}
 use Rattle.theory.proofs.Signed.{roundZ-signed}
@@ -38,7 +39,7 @@ use Rattle.wide.specs.Product.{multiplied}
 use Rattle.wide.specs.Quotient.{divided}
 use Rattle.wide.proofs.Results.{Result, summed-result, multiplied-result, divided-result}
 use Rattle.arithmetic.specs.Operands.{wideOf}
-use Rattle.arithmetic.specs.Operations.{rounded, roundedQuotient}
+use Rattle.arithmetic.specs.Operations.{rounded, roundedZ, roundedSum, roundedProduct, roundedQuotient}
 
 -- ---- the parts of Emin
 pub parts-above : (z : ℤ) → aboveZero z ≡ above z
@@ -89,6 +90,11 @@ module _ {f : Format} (ok : Admitted f) (b : Number) {y : Number} (m : member f 
   pub turned-value : value f y ≡ negℤ (value f b)
   turned-value = rw turned (negated-value ok (members b ok m))
 
+-- the format delivers the wide result w as the answer
+pub record Delivers (f : Format) (w : Wide) (answer : Answer) : Type 0 where
+  pub canonical : Canonical (f .base) (f .digits) (w .significand) (w .place)
+  pub is : delivered f (w .negative) (sizeOf (f .base) w) ≡ answer
+
 module _ {q : Prepared} (u : Usable q) where
   pub scale-is : q .scale ≡ scaleOf (q .format)
   scale-is = ap (λ (r : Prepared). r .scale) (u .is)
@@ -103,22 +109,26 @@ module _ {q : Prepared} (u : Usable q) where
       rw (e, scale-is) (record { canonical = member-canonical ok i; place-most = omega (arith, member-highest ok i, highest-most ok) })
 
   -- ---- a result of the wide format, delivered
-  pub result-delivered : {d : Direction} {negative : Bool} {N D : ℕ} {w : Wide} {r : Answer} → 1 ≤ D → Result (q .format .base) (q .format .digits) d negative N D w
-      → r ≡ delivered (q .format) (w .negative) (sizeOf (q .format .base) w) → r ≡ rounded (q .format) (sense d) negative N D
+  result-delivers : {d : Direction} {negative : Bool} {N D : ℕ} {w : Wide} → 1 ≤ D → Result (q .format .base) (q .format .digits) d negative N D w
+      → Delivers (q .format) w (rounded (q .format) (sense d) negative N D)
   unfolding delivered rounded
-  result-delivered {d} {negative} {N} {D} {w} hD h e =
+  result-delivers {d} {negative} {N} {D} {w} hD h =
       let f : Format = q .format in
       let v : ℕ = round (f .base) (f .digits) (sense d) negative N D in
       let same = number-same f (w .negative) negative (sizeOf (f .base) w) v (h .value ∙ roundZ-signed (positional (known u .admits)) hD (sense d) negative N) in
-      e ∙ rw (same, h .size)
+      record { canonical = h .canonical; is = rw (same, h .size) }
 
   module _ (d : Direction) (a b : Number) {x y : Wide} (ex : x ≡ wideOf (q .format) a) (ey : y ≡ wideOf (q .format) b) where
-    pub sum-result : {w : Wide} → w ≡ summed (q .scale .base) (q .scale .digits) d x y
+    sum-result : {w : Wide} → w ≡ summed (q .scale .base) (q .scale .digits) d x y
         → let v : ℤ = value (q .format) a +ℤ value (q .format) b in Result (q .format .base) (q .format .digits) d (is-negative v) (natAbs v) 1 w
     unfolding value magnitude
     sum-result e = rw (e, ex, ey, scale-is) (summed-result (positional (known u .admits)) d (wideOf (q .format) a) (wideOf (q .format) b))
 
-    pub product-result : {up down : ℕ} {w : Wide} → up ≡ aboveZero (q .format .emin) → down ≡ belowZero (q .format .emin)
+    pub sum-delivers : {w : Wide} → w ≡ summed (q .scale .base) (q .scale .digits) d x y → Delivers (q .format) w (roundedSum (q .format) (sense d) a b)
+    unfolding roundedZ
+    sum-delivers e = result-delivers (omega arith) (sum-result e)
+
+    product-result : {up down : ℕ} {w : Wide} → up ≡ aboveZero (q .format .emin) → down ≡ belowZero (q .format .emin)
         → w ≡ multiplied (q .scale .base) (q .scale .digits) d x y up down
         → Result (q .format .base) (q .format .digits) d (xor (a .negative) (b .negative))
         (magnitude (q .format) a * magnitude (q .format) b * q .format .base ^ aboveZero (q .format .emin)) (q .format .base ^ belowZero (q .format .emin)) w
@@ -126,10 +136,21 @@ module _ {q : Prepared} (u : Usable q) where
     product-result eu ed e =
         rw (e, ex, ey, eu, ed, scale-is) (multiplied-result (positional (known u .admits)) d (wideOf (q .format) a) (wideOf (q .format) b) _ _)
 
-    pub quotient-result : {up down : ℕ} {w : Wide} → 1 ≤ b .significand → up ≡ belowZero (q .format .emin) → down ≡ aboveZero (q .format .emin)
+    pub product-delivers : {up down : ℕ} {w : Wide} → up ≡ aboveZero (q .format .emin) → down ≡ belowZero (q .format .emin)
+        → w ≡ multiplied (q .scale .base) (q .scale .digits) d x y up down → Delivers (q .format) w (roundedProduct (q .format) (sense d) a b)
+    unfolding roundedProduct
+    product-delivers eu ed e = result-delivers (pow-pos (known u .admits .base-low) _) (product-result eu ed e)
+
+    quotient-result : {up down : ℕ} {w : Wide} → 1 ≤ b .significand → up ≡ belowZero (q .format .emin) → down ≡ aboveZero (q .format .emin)
         → w ≡ divided (q .scale .base) (q .scale .digits) d x y up down
         → Result (q .format .base) (q .format .digits) d (xor (a .negative) (b .negative))
         (magnitude (q .format) a * q .format .base ^ belowZero (q .format .emin)) (magnitude (q .format) b * q .format .base ^ aboveZero (q .format .emin)) w
     unfolding magnitude
     quotient-result h eu ed e =
         rw (e, ex, ey, eu, ed, scale-is) (divided-result (positional (known u .admits)) d (wideOf (q .format) a) (wideOf (q .format) b) _ _ h)
+
+    pub quotient-delivers : {up down : ℕ} {w : Wide} → 1 ≤ b .significand → up ≡ belowZero (q .format .emin) → down ≡ aboveZero (q .format .emin)
+        → w ≡ divided (q .scale .base) (q .scale .digits) d x y up down → Delivers (q .format) w (roundedQuotient (q .format) (sense d) a b)
+    quotient-delivers h eu ed e =
+        let ok = known u .admits in
+        rw (divisor-some ok (sense d) a b h) (result-delivers (divisor-positive ok b h) (quotient-result h eu ed e))

@@ -1,3 +1,4 @@
 -- What the four operations answer.
 pub mod Operands
+pub mod Decimal32
 pub mod Operations

@@ -1,4 +1,6 @@
 // The product.
+use crate::decimal32;
+use crate::decimal32::is_call;
 use crate::entry::enter_operation;
 use crate::operands::deliver_wide;
 use crate::operands::wide_of;
@@ -38,6 +40,9 @@ pub fn multiply(prepared: Prepared, direction: Direction, a: Number, b: Number) 
 pub fn product(format: Format, direction: u32, a: Number, b: Number) -> Answer
     ensures { λ r. ⌜ r ≡ multiplied format direction a b ⌝ }
 {
+    if is_call(format, direction, a, b) {
+        return decimal32::multiply(direction_of(direction), a, b);
+    }
     match enter_operation(format, direction, a, b) {
         Preparation::Refused(why) => Answer::Refused(why),
         Preparation::Ready(prepared) => multiply(prepared, direction_of(direction), a, b),

@@ -1,4 +1,6 @@
 // The quotient.
+use crate::decimal32;
+use crate::decimal32::is_call;
 use crate::entry::enter_operation;
 use crate::operands::deliver_wide;
 use crate::operands::wide_of;
@@ -42,6 +44,9 @@ pub fn divide(prepared: Prepared, direction: Direction, a: Number, b: Number) ->
 pub fn quotient(format: Format, direction: u32, a: Number, b: Number) -> Answer
     ensures { λ r. ⌜ r ≡ divided format direction a b ⌝ }
 {
+    if is_call(format, direction, a, b) {
+        return decimal32::divide(direction_of(direction), a, b);
+    }
     match enter_operation(format, direction, a, b) {
         Preparation::Refused(why) => Answer::Refused(why),
         Preparation::Ready(prepared) => divide(prepared, direction_of(direction), a, b),

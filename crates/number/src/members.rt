@@ -7,7 +7,7 @@ ghost use mathlib.Core.Bool.{true};
 ghost use Rattle.format.specs.Formats.{admitted, preparedOf};
 ghost use Rattle.number.specs.Numbers.{member};
 
-// Is x in the format that was prepared?
+// Is x in the format that was prepared? Most numbers have all their digits, so that is asked first.
 pub fn is_member(prepared: Prepared, x: Number) -> bool
     ensures { λ r. ⌜ ((f : Format) → admitted f ≡ true → prepared ≡ preparedOf f → r ≡ member f x) ⌝ }
 {
@@ -20,11 +20,11 @@ pub fn is_member(prepared: Prepared, x: Number) -> bool
     if prepared.format.emax < e {
         return false;
     }
+    if (prepared.scale.full <= m) & (m < prepared.scale.top) {
+        return true;
+    }
     if prepared.scale.top <= m {
         return false;
-    }
-    if prepared.scale.full <= m {
-        return true;
     }
     if emin < e {
         return false;

@@ -2,10 +2,11 @@
 use Prim.Native.Nat.{ℕ, suc, _^_, _+_, _*_, _-_, _≤_, _<_}
 use mathlib.Core.Path.{_≡_, refl, sym, ap, ap₂, _∙_}
 use mathlib.Core.Logic.{_≢_, inl, inr, ⊎-elim}
-use mathlib.Core.Bool.{Bool, true, false, Bool·beq}
-use native.Mathlib.Nat.{mul-le-mul-left, mul-le-mul-right, mul-lt-mul-of-pos-right, mul-pos, add-zero, le-of-mul-le-mul-left, le-antisymm, pow-zero}
+use mathlib.Core.Bool.{Bool, true, false, not, cond, Bool·beq}
+use native.Mathlib.Nat.{mul-le-mul-left, mul-le-mul-right, mul-lt-mul-of-pos-right, mul-pos, add-zero, le-of-mul-le-mul-left, le-antisymm, pow-zero, sub-zero}
 use native.Mathlib.Omega.{arith}
 use lib.IntN.{ℤ, natAbs, _+ℤ_}
+use mir.Val.{boolByte}
 use Rattle.theory.specs.Place.{Positional}
 use Rattle.theory.specs.Wide.{Canonical}
 use Rattle.theory.specs.Signed.{signed}
@@ -162,3 +163,9 @@ module _ {s : Scale} (h : Scaled s) {x y : Wide} (hx : Operand s x) (hy : Operan
       (sum-differ (x .negative) (y .negative) e (sizeOf (s .base) x) (sizeOf (s .base) y) (omega (arith, y-below)) ∙ ap (signed (x .negative)) (omega (arith, y-below)))
       (sym (canonical-cut (positional h) before (B - sizeOf (s .base) y) (omega (arith, y-some, y-below))
       ∙ ap (λ (l : Location). record { steps = s .top - 1; place = k; location = l }) (same-location ∙ sym f)))
+
+  -- both cases in which x keeps its place, selected by the signs
+  pub far-selected : (t : Bool) → Bool·beq (x .negative) (y .negative) ≡ t → (t ≡ false → s .full < x .significand) → {l : Location} → l ≡ cond t Below Above
+      → SumCut s (valueOf (s .base) x +ℤ valueOf (s .base) y) (record { negative = x .negative; cut = record { steps = x .significand - boolByte (not t); place = x .place; location = l } })
+  far-selected true e m f = rw (f, sub-zero (x .significand)) (far-agree e)
+  far-selected false e m f = rw f (far-differ e (m refl))

@@ -10,7 +10,7 @@ ghost use mathlib.Core.Path.{_≡_};
 ghost use Prim.Native.Nat.{_*_, _<_, _^_};
 ghost use Rattle.format.specs.Formats.{Scaled};
 ghost use Rattle.rounding.specs.Cut.{cutOf};
-ghost use Rattle.wide.specs.Operand.{Operand};
+ghost use Rattle.wide.specs.Operand.{Operand, sizeOf};
 ghost use Rattle.wide.specs.Product.{multiplied};
 
 // The cut of n * base ^ up / base ^ down, where n is the product of two significands: mostly it has all their digits, or one less.
@@ -25,6 +25,23 @@ fn product_cut(scale: Scale, n: u64, up: u32, down: u32) -> Cut
     cut(scale, n, up, down)
 }
 
+// x * y * base ^ up / base ^ down, rounded, where its cut is at hand.
+pub fn round_product(
+    scale: Scale,
+    direction: Direction,
+    x: Wide,
+    y: Wide,
+    up: u32,
+    down: u32,
+    exact: Cut,
+) -> Wide
+    requires { ⌜ Scaled scale × Operand scale x × Operand scale y × (up < 2 ^ 28)
+        × (exact ≡ cutOf (scale .base) (scale .digits) (sizeOf (scale .base) x * sizeOf (scale .base) y * scale .base ^ up) (scale .base ^ down)) ⌝ }
+    ensures { λ r. ⌜ r ≡ multiplied (scale .base) (scale .digits) direction x y up down ⌝ }
+{
+    deliver(scale, direction, x.negative != y.negative, exact)
+}
+
 // x * y * base ^ up / base ^ down, rounded.
 pub fn product(scale: Scale, direction: Direction, x: Wide, y: Wide, up: u32, down: u32) -> Wide
     requires { ⌜ Scaled scale × Operand scale x × Operand scale y × (up < 2 ^ 28) × (down < 2 ^ 28) ⌝ }
@@ -32,5 +49,5 @@ pub fn product(scale: Scale, direction: Direction, x: Wide, y: Wide, up: u32, do
 {
     let n = x.significand as u64 * y.significand as u64;
     let exact = product_cut(scale, n, x.place + y.place + up, down);
-    deliver(scale, direction, x.negative != y.negative, exact)
+    round_product(scale, direction, x, y, up, down, exact)
 }

@@ -15,13 +15,13 @@ ghost use Prim.Native.Nat.{_+_, _*_, _<_, _≤_, _^_};
 ghost use Rattle.format.specs.Formats.{Scaled};
 ghost use Rattle.rounding.specs.Cut.{cutOf, dropped};
 ghost use Rattle.rounding.specs.Location.{located};
-ghost use Rattle.wide.specs.Operand.{Operand};
+ghost use Rattle.wide.specs.Operand.{Operand, sizeOf};
 ghost use Rattle.wide.specs.Quotient.{divided, Leading, Shifted};
 
 // A significand with all its digits, and how many were added.
-struct Normal {
-    value: u64,
-    shift: u32,
+pub struct Normal {
+    pub value: u64,
+    pub shift: u32,
 }
 
 // `m` with as many digits more as it lacks.
@@ -37,7 +37,7 @@ fn normalise(scale: Scale, m: Significand) -> Normal
 }
 
 // a * unit divided by b.
-fn divide_shifted(scale: Scale, a: u64, b: u64, unit: u64, place: u32) -> Cut
+pub fn divide_shifted(scale: Scale, a: u64, b: u64, unit: u64, place: u32) -> Cut
     requires { ⌜ Scaled scale × Leading scale b × (a * unit < b * scale .top) ⌝ }
     ensures { λ r. ⌜ r ≡ dropped (a * unit) b place ⌝ }
 {
@@ -45,7 +45,7 @@ fn divide_shifted(scale: Scale, a: u64, b: u64, unit: u64, place: u32) -> Cut
 }
 
 // Where a lies in b * base ^ e.
-fn locate_under(scale: Scale, a: u64, b: u64, e: u32) -> Location
+pub fn locate_under(scale: Scale, a: u64, b: u64, e: u32) -> Location
     requires { ⌜ Scaled scale × Leading scale a × Leading scale b × (1 ≤ e) ⌝ }
     ensures { λ r. ⌜ r ≡ located a (b * scale .base ^ e) ⌝ }
 {
@@ -81,6 +81,23 @@ fn quotient_cut(scale: Scale, a: u64, b: u64, high: u32, low: u32) -> Cut
     }
 }
 
+// x * base ^ up / (y * base ^ down), rounded, where its cut is at hand.
+pub fn round_quotient(
+    scale: Scale,
+    direction: Direction,
+    x: Wide,
+    y: Wide,
+    up: u32,
+    down: u32,
+    exact: Cut,
+) -> Wide
+    requires { ⌜ Scaled scale × Operand scale x × (1 ≤ y .significand) × (up < 2 ^ 28)
+        × (exact ≡ cutOf (scale .base) (scale .digits) (sizeOf (scale .base) x * scale .base ^ up) (sizeOf (scale .base) y * scale .base ^ down)) ⌝ }
+    ensures { λ r. ⌜ r ≡ divided (scale .base) (scale .digits) direction x y up down ⌝ }
+{
+    deliver(scale, direction, x.negative != y.negative, exact)
+}
+
 // x * base ^ up / (y * base ^ down), rounded.
 pub fn quotient(scale: Scale, direction: Direction, x: Wide, y: Wide, up: u32, down: u32) -> Wide
     requires { ⌜ Scaled scale × Operand scale x × Operand scale y × (1 ≤ y .significand) × (up < 2 ^ 28) × (down < 2 ^ 28) ⌝ }
@@ -98,5 +115,5 @@ pub fn quotient(scale: Scale, direction: Direction, x: Wide, y: Wide, up: u32, d
     let high = x.place + up + b.shift;
     let low = y.place + down + a.shift;
     let exact = quotient_cut(scale, a.value, b.value, high, low);
-    deliver(scale, direction, x.negative != y.negative, exact)
+    round_quotient(scale, direction, x, y, up, down, exact)
 }

@@ -21,17 +21,18 @@ ghost use Rattle.wide.specs.Operand.{Operand, valueOf};
 ghost use Rattle.wide.specs.Sum.{Adds, SumCut, summed, belowPower};
 
 // A sign and a magnitude, in any unit.
-struct SignedSize {
-    negative: bool,
-    size: u64,
+pub struct SignedSize {
+    pub negative: bool,
+    pub size: u64,
 }
 
-// The sum of two signed magnitudes of one unit. The difference is worked out before the signs are compared, so that values are
-// selected and not branched on.
-fn add_signed(a: bool, v: u64, b: bool, w: u64) -> SignedSize
+// The sum of two signed magnitudes of one unit. Both the sum and the difference are worked out, and the struct is made of selected
+// values: made in two branches it would be branched on.
+pub fn add_signed(a: bool, v: u64, b: bool, w: u64) -> SignedSize
     requires { ⌜ v + w < 2 ^ 64 ⌝ }
     ensures { λ r. ⌜ Adds a v b w (r .negative) (r .size) ⌝ }
 {
+    let total = v + w;
     let mut greater = a;
     let mut difference: u64 = 0;
     if w <= v {
@@ -40,15 +41,12 @@ fn add_signed(a: bool, v: u64, b: bool, w: u64) -> SignedSize
         greater = b;
         difference = w - v;
     }
-    if a == b {
-        return SignedSize {
-            negative: a,
-            size: v + w,
-        };
-    }
+    let same = a == b;
+    let negative = if same { a } else { greater };
+    let size = if same { total } else { difference };
     SignedSize {
-        negative: greater,
-        size: difference,
+        negative: negative,
+        size: size,
     }
 }
 
@@ -89,39 +87,34 @@ fn below_power(scale: Scale, m: Significand, gap: u32) -> Location
 }
 
 // The sum of two numbers whose places differ by more: |y| is below half a step of x, and below a whole step of the number before x.
-fn far_sum(scale: Scale, x: Wide, y: Wide, gap: u32) -> SignedCut
+pub fn far_sum(scale: Scale, x: Wide, y: Wide, gap: u32) -> SignedCut
     requires { ⌜ Scaled scale × Operand scale x × Operand scale y × (x .place ≡ y .place + gap) × (scale .digits < gap) × (1 ≤ y .significand) ⌝ }
     ensures { λ r. ⌜ SumCut scale (valueOf (scale .base) x +ℤ valueOf (scale .base) y) r ⌝ }
 {
     let m = x.significand;
     let place = x.place;
     let negative = x.negative;
-    if negative == y.negative {
+    let differ = negative != y.negative;
+    if differ & (m <= scale.full) {
         let cut = Cut {
-            steps: m,
-            place: place,
-            location: Location::Below,
+            steps: scale.top - 1,
+            place: place - 1,
+            location: below_power(scale, y.significand, gap),
         };
         return SignedCut {
             negative: negative,
             cut: cut,
         };
     }
-    if scale.full < m {
-        let cut = Cut {
-            steps: m - 1,
-            place: place,
-            location: Location::Above,
-        };
-        return SignedCut {
-            negative: negative,
-            cut: cut,
-        };
-    }
+    let location = if differ {
+        Location::Above
+    } else {
+        Location::Below
+    };
     let cut = Cut {
-        steps: scale.top - 1,
-        place: place - 1,
-        location: below_power(scale, y.significand, gap),
+        steps: m - differ as Significand,
+        place: place,
+        location: location,
     };
     SignedCut {
         negative: negative,
@@ -166,12 +159,20 @@ fn sum_cut(scale: Scale, x: Wide, y: Wide) -> SignedCut
     ordered_sum(scale, high, low)
 }
 
+// x + y, rounded, where its cut is at hand.
+pub fn round_sum(scale: Scale, direction: Direction, x: Wide, y: Wide, exact: SignedCut) -> Wide
+    requires { ⌜ Scaled scale × Operand scale x × Operand scale y × SumCut scale (valueOf (scale .base) x +ℤ valueOf (scale .base) y) exact ⌝ }
+    ensures { λ r. ⌜ r ≡ summed (scale .base) (scale .digits) direction x y ⌝ }
+{
+    let cut = exact.cut;
+    deliver(scale, direction, exact.negative, cut)
+}
+
 // x + y, rounded.
 pub fn sum(scale: Scale, direction: Direction, x: Wide, y: Wide) -> Wide
     requires { ⌜ Scaled scale × Operand scale x × Operand scale y ⌝ }
     ensures { λ r. ⌜ r ≡ summed (scale .base) (scale .digits) direction x y ⌝ }
 {
     let exact = sum_cut(scale, x, y);
-    let cut = exact.cut;
-    deliver(scale, direction, exact.negative, cut)
+    round_sum(scale, direction, x, y, exact)
 }

@@ -1,19 +1,16 @@
 -- `arithmetic::product::multiply` meets its contract: the product in the wide format, delivered.
 use borrow.Author.Needs.{needs}
-use Prim.Native.Nat.{_^_, _*_, _<_}
+use Prim.Native.Nat.{_^_, _<_}
 use mathlib.Core.Path.{_≡_, _∙_}
-use mathlib.Core.Bool.{xor}
 use mir.Syntax.{w32}
 use mir.Val.{SFits}
-use Rattle.theory.proofs.Powers.{pow-pos}
+use Rattle.format.specs.Directions.{sense}
 use Rattle.format.proofs.Signed.{back}
 use Rattle.number.specs.Exponents.{aboveZero, belowZero}
-use Rattle.number.specs.Numbers.{magnitude}
 use Rattle.number.proofs.Membership.{known}
 use Rattle.number.proofs.Values.{emin-admitted}
-use Rattle.wide.proofs.Results.{Result}
 use Rattle.arithmetic.specs.Operations.{roundedProduct}
-use Rattle.arithmetic.proofs.Prepared.{above-most, below-most, scale-scaled, operand, result-delivered, product-result}
+use Rattle.arithmetic.proofs.Prepared.{Delivers, above-most, below-most, scale-scaled, operand, product-delivers}
 use Rattle.arithmetic.proofs.product.multiply.Statement.{statement}
 use Rattle.arithmetic.proofs.product.multiply.Tie as tie
 
@@ -61,22 +58,18 @@ product-requires c κs =
     search needs
 
 -- what comes from the wide format
-result : (c : tie.After-product) → let s = start (operands (c .before)) .args in let f = s .prepared .format in
-    Result (f .base) (f .digits) (s .direction) (xor (s .a .negative) (s .b .negative))
-    (magnitude f (s .a) * magnitude f (s .b) * f .base ^ aboveZero (f .emin)) (f .base ^ belowZero (f .emin)) (c .product .result)
+result : (c : tie.After-product) → let s = start (operands (c .before)) .args in
+    Delivers (s .prepared .format) (c .product .result) (roundedProduct (s .prepared .format) (sense (s .direction)) (s .a) (s .b))
 result c =
     let o = operands (c .before) in
     let s = start o in
-    product-result (s .pre .0) (s .args .direction) (s .args .a) (s .args .b) (o .before .wide-of .ensures) (o .wide-of2 .ensures) (up (c .before)) (down (c .before)) (c .product .ensures)
+    product-delivers (s .pre .0) (s .args .direction) (s .args .a) (s .args .b) (o .before .wide-of .ensures) (o .wide-of2 .ensures) (up (c .before)) (down (c .before)) (c .product .ensures)
 
 deliver-wide-requires : tie.Need-deliver-wide-requires
 deliver-wide-requires c κs = (start (operands (c .before)) .pre .0, result c .canonical)
 
 returns : tie.Need-returns
-unfolding roundedProduct
-returns c =
-    let u = start (operands (c .before .before)) .pre .0 in
-    result-delivered u (pow-pos (known u .admits .base-low) _) (result (c .before)) (c .deliver-wide .ensures)
+returns c = c .deliver-wide .ensures ∙ result (c .before) .is
 
 pub multiply-spec : {M : Type 1} → statement M
 multiply-spec =

@@ -1,19 +1,17 @@
 -- `arithmetic::quotient::divide` meets its contract: the quotient in the wide format, delivered.
 use borrow.Author.Needs.{needs}
-use Prim.Native.Nat.{_^_, _*_, _≤_, _<_}
+use Prim.Native.Nat.{_^_, _≤_, _<_}
 use mathlib.Core.Path.{_≡_, sym, _∙_}
-use mathlib.Core.Bool.{xor}
 use native.Mathlib.Omega.{arith}
 use mir.Syntax.{w32}
 use mir.Val.{SFits}
 use Rattle.format.specs.Directions.{sense}
 use Rattle.format.proofs.Signed.{back}
 use Rattle.number.specs.Exponents.{aboveZero, belowZero}
-use Rattle.number.specs.Numbers.{magnitude}
 use Rattle.number.proofs.Membership.{known}
 use Rattle.number.proofs.Values.{emin-admitted}
-use Rattle.wide.proofs.Results.{Result}
-use Rattle.arithmetic.proofs.Prepared.{above-most, below-most, divisor-positive, divisor-some, divisor-none, scale-scaled, operand, result-delivered, quotient-result}
+use Rattle.arithmetic.specs.Operations.{roundedQuotient}
+use Rattle.arithmetic.proofs.Prepared.{Delivers, above-most, below-most, divisor-none, scale-scaled, operand, quotient-delivers}
 use Rattle.arithmetic.proofs.quotient.divide.Statement.{statement}
 use Rattle.arithmetic.proofs.quotient.divide.Tie as tie
 
@@ -69,24 +67,18 @@ quotient-requires c κs =
     search needs
 
 -- what comes from the wide format
-result : (c : tie.After-quotient) → let s = start (operands (c .before)) .args in let f = s .prepared .format in
-    Result (f .base) (f .digits) (s .direction) (xor (s .a .negative) (s .b .negative))
-    (magnitude f (s .a) * f .base ^ belowZero (f .emin)) (magnitude f (s .b) * f .base ^ aboveZero (f .emin)) (c .quotient .result)
+result : (c : tie.After-quotient) → let s = start (operands (c .before)) .args in
+    Delivers (s .prepared .format) (c .quotient .result) (roundedQuotient (s .prepared .format) (sense (s .direction)) (s .a) (s .b))
 result c =
     let o = operands (c .before) in
     let s = start o in
-    quotient-result (s .pre .0) (s .args .direction) (s .args .a) (s .args .b) (o .before .wide-of .ensures) (o .wide-of2 .ensures) (some o) (up (c .before)) (down (c .before)) (c .quotient .ensures)
+    quotient-delivers (s .pre .0) (s .args .direction) (s .args .a) (s .args .b) (o .before .wide-of .ensures) (o .wide-of2 .ensures) (some o) (up (c .before)) (down (c .before)) (c .quotient .ensures)
 
 deliver-wide-requires : tie.Need-deliver-wide-requires
 deliver-wide-requires c κs = (start (operands (c .before)) .pre .0, result c .canonical)
 
 returns-2 : tie.Need-returns-2
-returns-2 c =
-    let o = operands (c .before .before) in
-    let s = start o in
-    let ok = known (s .pre .0) .admits in
-    result-delivered (s .pre .0) (divisor-positive ok (s .args .b) (some o)) (result (c .before)) (c .deliver-wide .ensures)
-    ∙ sym (divisor-some ok (sense (s .args .direction)) (s .args .a) (s .args .b) (some o))
+returns-2 c = c .deliver-wide .ensures ∙ result (c .before) .is
 
 pub divide-spec : {M : Type 1} → statement M
 divide-spec =

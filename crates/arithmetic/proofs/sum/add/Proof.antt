@@ -1,12 +1,9 @@
 -- `arithmetic::sum::add` meets its contract: the sum in the wide format, delivered.
 use borrow.Author.Needs.{needs}
-use native.Mathlib.Omega.{arith}
-use lib.IntN.{ℤ, natAbs, _+ℤ_}
-use Rattle.theory.specs.Signed.{is-negative}
-use Rattle.number.specs.Numbers.{value}
-use Rattle.wide.proofs.Results.{Result}
-use Rattle.arithmetic.specs.Operations.{roundedZ}
-use Rattle.arithmetic.proofs.Prepared.{scale-scaled, operand, result-delivered, sum-result}
+use mathlib.Core.Path.{_∙_}
+use Rattle.format.specs.Directions.{sense}
+use Rattle.arithmetic.specs.Operations.{roundedSum}
+use Rattle.arithmetic.proofs.Prepared.{Delivers, scale-scaled, operand, sum-delivers}
 use Rattle.arithmetic.proofs.sum.add.Statement.{statement}
 use Rattle.arithmetic.proofs.sum.add.Tie as tie
 
@@ -29,19 +26,18 @@ sum-requires c κs =
     search needs
 
 -- what comes from the wide format
-result : (c : tie.After-sum) → let s = start (c .before) .args in let v : ℤ = value (s .prepared .format) (s .a) +ℤ value (s .prepared .format) (s .b) in
-    Result (s .prepared .format .base) (s .prepared .format .digits) (s .direction) (is-negative v) (natAbs v) 1 (c .sum .result)
+result : (c : tie.After-sum) → let s = start (c .before) .args in
+    Delivers (s .prepared .format) (c .sum .result) (roundedSum (s .prepared .format) (sense (s .direction)) (s .a) (s .b))
 result c =
     let o = c .before in
     let s = start o in
-    sum-result (s .pre .0) (s .args .direction) (s .args .a) (s .args .b) (o .before .wide-of .ensures) (o .wide-of2 .ensures) (c .sum .ensures)
+    sum-delivers (s .pre .0) (s .args .direction) (s .args .a) (s .args .b) (o .before .wide-of .ensures) (o .wide-of2 .ensures) (c .sum .ensures)
 
 deliver-wide-requires : tie.Need-deliver-wide-requires
 deliver-wide-requires c κs = (start (c .before) .pre .0, result c .canonical)
 
 returns : tie.Need-returns
-unfolding roundedZ
-returns c = result-delivered (start (c .before .before) .pre .0) (omega arith) (result (c .before)) (c .deliver-wide .ensures)
+returns c = c .deliver-wide .ensures ∙ result (c .before) .is
 
 pub add-spec : {M : Type 1} → statement M
 add-spec =

@@ -1,17 +1,11 @@
--- `wide::product::product` meets its contract: the cut of the exact product, delivered.
+-- `wide::product::product` meets its contract: the cut is that of the exact product.
 use borrow.Author.Needs.{needs}
-use Prim.Native.Nat.{ℕ, _^_, _*_, _≤_}
-use mathlib.Core.Path.{_≡_, ap, _∙_}
-use mathlib.Core.Bool.{xor}
+use Prim.Native.Nat.{ℕ, _^_}
+use mathlib.Core.Path.{ap, _∙_}
 use native.Mathlib.Omega.{arith}
-use Rattle.theory.proofs.Powers.{pow-pos}
 use Rattle.rounding.specs.Cut.{cutOf}
-use Rattle.rounding.proofs.Scales.{positional, digits-most, square, square-most}
-use Rattle.wide.specs.Operand.{sizeOf}
-use Rattle.wide.specs.Product.{multiplied}
+use Rattle.rounding.proofs.Scales.{square, square-most}
 use Rattle.wide.proofs.Products.{product-small, product-value}
-use Rattle.wide.proofs.Sizes.{product-size}
-use Rattle.wide.proofs.Deliveries.{steps-fit, place-fit}
 use Rattle.wide.proofs.product.product.Statement.{statement}
 use Rattle.wide.proofs.product.product.Tie as tie
 
@@ -32,47 +26,26 @@ add-product-cut c = search needs
 add-product-cut-2 : tie.Need-add-product-cut-2
 add-product-cut-2 c = search needs
 
-abbrev start : tie.After-product-cut → tie.Start
-start c = c .before .before .before .before .before
-
-abbrev numerator : tie.Start → ℕ
-numerator c = sizeOf (c .args .scale .base) (c .args .x) * sizeOf (c .args .scale .base) (c .args .y) * c .args .scale .base ^ c .args .up
-
-abbrev denominator : tie.Start → ℕ
-denominator c = c .args .scale .base ^ c .args .down
-
-positive : (c : tie.Start) → 1 ≤ denominator c
-positive c = pow-pos (c .pre .0 .base-least) (c .args .down)
-
--- the cut is that of the exact product
-exact : (c : tie.After-product-cut) → c .product-cut .result ≡ cutOf (start c .args .scale .base) (start c .args .scale .digits) (numerator (start c)) (denominator (start c))
-exact c =
-    let s = start c in
-    let p = s .pre in
-    c .product-cut .ensures
-    ∙ ap (λ (n : ℕ). cutOf (s .args .scale .base) (s .args .scale .digits) n (denominator s)) (product-value (p .0) (p .1) (p .2) (s .args .up))
-
 product-cut-requires : tie.Need-product-cut-requires
 product-cut-requires c κs =
     let p = c .before .before .before .before .pre in
     (p .0, product-small (p .0) (p .1) (p .2), omega (arith, p .1 .place-most, p .2 .place-most, p .3), omega (arith, p .4))
 
-deliver-requires : tie.Need-deliver-requires
-deliver-requires c κs =
-    let b = c .before .before in
-    let s = start b in
-    let p = s .pre in (
+round-product-requires : tie.Need-round-product-requires
+round-product-requires c κs =
+    let s = c .before .before .before .before .before in
+    let p = s .pre in
+    let a = s .args in (
       p .0,
-      steps-fit (p .0) (numerator s) (denominator s) (positive s) (exact b),
-      omega (arith, place-fit (p .0) (numerator s) (denominator s) (positive s) (exact b) (2 ^ 30) (product-size (positional (p .0)) (s .args .x) (s .args .y) (p .1 .canonical) (p .2 .canonical) (s .args .up) (2 ^ 30) (omega (arith, digits-most (p .0), p .1 .place-most, p .2 .place-most, p .3)))),
+      p .1,
+      p .2,
+      p .3,
+      c .product-cut .ensures
+          ∙ ap (λ (n : ℕ). cutOf (a .scale .base) (a .scale .digits) n (a .scale .base ^ a .down)) (product-value (p .0) (p .1) (p .2) (a .up)),
     )
 
 returns : tie.Need-returns
-unfolding multiplied xor
-returns c =
-    let b = c .before .before .before in
-    let s = start b in
-    c .deliver .ensures (numerator s) (denominator s) (positive s) (exact b)
+returns c = search needs
 
 pub product-spec : {M : Type 1} → statement M
 product-spec =
@@ -84,5 +57,5 @@ product-spec =
     add-product-cut
     add-product-cut-2
     product-cut-requires
-    deliver-requires
+    round-product-requires
     returns)

@@ -1,4 +1,4 @@
--- `wide::quotient::quotient` meets its contract: the cut of the exact quotient, delivered.
+-- `wide::quotient::quotient` meets its contract: the cut is that of the exact quotient.
 use borrow.Author.Needs.{needs}
 use Prim.Native.Nat.{ℕ, _^_, _+_, _*_, _≤_, _<_}
 use mathlib.Core.Path.{_≡_, sym, ap, _∙_}
@@ -12,8 +12,7 @@ use Rattle.wide.specs.Operand.{sizeOf}
 use Rattle.wide.specs.Delivery.{delivered}
 use Rattle.wide.specs.Quotient.{divided}
 use Rattle.wide.proofs.Quotients.{quotient-exact}
-use Rattle.wide.proofs.Sizes.{shifted-size}
-use Rattle.wide.proofs.Deliveries.{steps-fit, place-fit, delivered-zero}
+use Rattle.wide.proofs.Deliveries.{delivered-zero}
 use Rattle.wide.proofs.quotient.quotient.Statement.{statement}
 use Rattle.wide.proofs.quotient.quotient.Tie as tie
 
@@ -81,22 +80,13 @@ exact c =
     c .quotient-cut .ensures
     ∙ quotient-exact (s .pre .0) (a .x .place) (a .y .place) (a .up) (a .down) (b .before .normalise .ensures) (b .normalise2 .ensures) (s .pre .3)
 
-deliver-requires : tie.Need-deliver-requires
-deliver-requires c κs =
-    let b = c .before .before in
-    let s = start (normal b) in
-    let p = s .pre in (
-      p .0,
-      steps-fit (p .0) (numerator s) (denominator s) (positive s) (exact b),
-      omega (arith, place-fit (p .0) (numerator s) (denominator s) (positive s) (exact b) (2 ^ 30) (shifted-size (positional (p .0)) (s .args .x) (p .1 .canonical) (s .args .up) (2 ^ 30) (omega (arith, p .1 .place-most, p .4)))),
-    )
+round-quotient-requires : tie.Need-round-quotient-requires
+round-quotient-requires c κs =
+    let p = start (normal c) .pre in
+    (p .0, p .1, p .3, p .4, exact c)
 
 returns-2 : tie.Need-returns-2
-unfolding divided xor
-returns-2 c =
-    let b = c .before .before .before in
-    let s = start (normal b) in
-    c .deliver .ensures (numerator s) (denominator s) (positive s) (exact b)
+returns-2 c = search needs
 
 pub quotient-spec : {M : Type 1} → statement M
 quotient-spec =
@@ -110,5 +100,5 @@ quotient-spec =
     add-low
     add-low-2
     quotient-cut-requires
-    deliver-requires
+    round-quotient-requires
     returns-2)

@@ -1,0 +1,4 @@
+-- The laws that the operations' proofs go by.
+pub mod Scales
+pub mod Growth
+pub mod Exact

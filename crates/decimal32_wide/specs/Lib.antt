@@ -1,0 +1,2 @@
+-- The scale of decimal32.
+pub mod Scale
