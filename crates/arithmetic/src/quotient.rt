@@ -36,7 +36,7 @@ pub fn divide(prepared: Prepared, direction: Direction, a: Number, b: Number) ->
     let down = above_zero(prepared.format.emin);
     deliver_wide(
         prepared,
-        wide::quotient::quotient(scale, direction, x, y, up, down),
+        wide_quotient::quotient(scale, direction, x, y, up, down),
     )
 }
 

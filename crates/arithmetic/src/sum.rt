@@ -27,7 +27,7 @@ pub fn add(prepared: Prepared, direction: Direction, a: Number, b: Number) -> An
     let scale = prepared.scale;
     let x = wide_of(prepared, a);
     let y = wide_of(prepared, b);
-    deliver_wide(prepared, wide::sum::sum(scale, direction, x, y))
+    deliver_wide(prepared, wide_sum::sum(scale, direction, x, y))
 }
 
 // a - b, in a format that was prepared. Refuses 5.

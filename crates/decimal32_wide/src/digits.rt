@@ -1,6 +1,6 @@
 // Powers of ten, and significands with all their digits.
 use format::Significand;
-use wide::quotient::Normal;
+use wide_quotient::Normal;
 ghost use mathlib.Core.Path.{_≡_};
 ghost use mathlib.Core.Bool.{cond};
 ghost use Prim.Native.Nat.{_<_, _≤_, _^_};

@@ -1,8 +1,7 @@
-// Sum, product and quotient in the wide format: the exact value of two numbers, rounded once.
+// The wide format: its numbers, the last step of every operation, and the product. Sum and quotient stand in crates of their own; the
+// definitions and laws of all three stand here.
 pub mod delivery;
 pub mod product;
-pub mod quotient;
-pub mod sum;
 
 use format::Significand;
 use rounding::Cut;
