@@ -1,4 +1,4 @@
--- `rump::premises::last_premise` meets its contract.
+-- `rump_premises::premises::last_premise` meets its contract.
 use borrow.Author.Needs.{needs}
 use Prim.Native.Nat.{ℕ, _*_, _-_, _^_, _≤_}
 use mathlib.Core.Path.{_≡_, sym, ap, ap₂, _∙_}
@@ -19,12 +19,12 @@ use Rattle.number.specs.Numbers.{placeOf, magnitude, greatest, number}
 use Rattle.number.proofs.Membership.{members, known}
 use Rattle.number.proofs.Values.{member-greatest, greatest-wide}
 use Rattle.arithmetic.proofs.Prepared.{no-magnitude}
-use Rattle.rump.specs.Routes.{premise}
-use Rattle.rump.specs.Steps.{Has}
-use Rattle.rump.proofs.Reach.{last, last-format, last-by}
-use Rattle.rump.proofs.Steps.{number-has, has-size}
-use Rattle.rump.proofs.premises.last_premise.Statement.{statement}
-use Rattle.rump.proofs.premises.last_premise.Tie as tie
+use Rattle.rump_premises.specs.Premises.{premise}
+use Rattle.rump_premises.specs.Values.{Has}
+use Rattle.rump_premises.proofs.Reach.{last, last-format, last-by}
+use Rattle.rump_premises.proofs.Values.{number-has, has-size}
+use Rattle.rump_premises.proofs.premises.last_premise.Statement.{statement}
+use Rattle.rump_premises.proofs.premises.last_premise.Tie as tie
 
 exponents-suffice-requires : tie.Need-exponents-suffice-requires
 exponents-suffice-requires c κs = search needs

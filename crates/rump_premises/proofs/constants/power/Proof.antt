@@ -1,4 +1,4 @@
--- `rump::constants::power` meets its contract.
+-- `rump_premises::constants::power` meets its contract.
 use borrow.Author.Needs.{needs}
 use Prim.Native.Nat.{ℕ, _+_, _*_, _^_}
 use mathlib.Core.Path.{_≡_, ap, subst, _∙_}
@@ -17,10 +17,10 @@ use Rattle.number.specs.Numbers.{number}
 use Rattle.number.proofs.Membership.{known}
 use Rattle.number.proofs.Values.{emin-admitted}
 use Rattle.arithmetic.proofs.Prepared.{below-most}
-use Rattle.rump.proofs.Reach.{reach, constant-most}
-use Rattle.rump.proofs.Steps.{number-has}
-use Rattle.rump.proofs.constants.power.Statement.{statement}
-use Rattle.rump.proofs.constants.power.Tie as tie
+use Rattle.rump_premises.proofs.Reach.{reach, constant-most}
+use Rattle.rump_premises.proofs.Values.{number-has}
+use Rattle.rump_premises.proofs.constants.power.Statement.{statement}
+use Rattle.rump_premises.proofs.constants.power.Tie as tie
 
 emin-fits : (c : tie.Start) → SFits w32 (c .args .prepared .format .emin)
 emin-fits c = search needs

@@ -1,4 +1,4 @@
--- `rump::premises::first_premise` meets its contract.
+-- `rump_premises::premises::first_premise` meets its contract.
 use borrow.Author.Needs.{needs}
 use Prim.Native.Nat.{ℕ, _+_, _-_, _^_}
 use mathlib.Core.Path.{_≡_, sym, ap, ap₂, _∙_}
@@ -13,12 +13,12 @@ use Rattle.format.proofs.Formats.{positional}
 use Rattle.number.specs.Numbers.{magnitude, number}
 use Rattle.number.proofs.Membership.{known}
 use Rattle.number.proofs.Values.{highest-most}
-use Rattle.rump.specs.Routes.{premise}
-use Rattle.rump.specs.Steps.{Has}
-use Rattle.rump.proofs.Reach.{reach, power-most, first-format, first-by}
-use Rattle.rump.proofs.Steps.{number-has, has-size}
-use Rattle.rump.proofs.premises.first_premise.Statement.{statement}
-use Rattle.rump.proofs.premises.first_premise.Tie as tie
+use Rattle.rump_premises.specs.Premises.{premise}
+use Rattle.rump_premises.specs.Values.{Has}
+use Rattle.rump_premises.proofs.Reach.{reach, power-most, first-format, first-by}
+use Rattle.rump_premises.proofs.Values.{number-has, has-size}
+use Rattle.rump_premises.proofs.premises.first_premise.Statement.{statement}
+use Rattle.rump_premises.proofs.premises.first_premise.Tie as tie
 
 exponents-suffice-requires : tie.Need-exponents-suffice-requires
 exponents-suffice-requires c κs = search needs

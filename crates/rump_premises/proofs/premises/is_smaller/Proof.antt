@@ -1,11 +1,11 @@
--- `rump::premises::is_smaller` meets its contract.
+-- `rump_premises::premises::is_smaller` meets its contract.
 use borrow.Author.Needs.{needs}
 use mathlib.Core.Path.{sym, _∙_}
 use native.Mathlib.Nat.{le-of-lt}
 use borrow.Author.Tests.{lt-ltb, le-ltb}
 use Rattle.number.proofs.Comparison.{size-less-says, size-equal-says, size-greater-says, size-never-refused}
-use Rattle.rump.proofs.premises.is_smaller.Statement.{statement}
-use Rattle.rump.proofs.premises.is_smaller.Tie as tie
+use Rattle.rump_premises.proofs.premises.is_smaller.Statement.{statement}
+use Rattle.rump_premises.proofs.premises.is_smaller.Tie as tie
 
 compare-magnitudes-requires : tie.Need-compare-magnitudes-requires
 compare-magnitudes-requires c κs = search needs

@@ -1,4 +1,4 @@
--- `rump::constants::subrealmin` meets its contract.
+-- `rump_premises::constants::subrealmin` meets its contract.
 use mathlib.Core.Path.{ap, subst, _∙_}
 use mathlib.Core.Bool.{false}
 use native.Mathlib.Nat.{pow-zero}
@@ -9,9 +9,9 @@ use Rattle.format.proofs.Formats.{positional}
 use Rattle.number.specs.Numbers.{number}
 use Rattle.number.proofs.Membership.{known}
 use Rattle.number.proofs.Values.{one-greatest}
-use Rattle.rump.proofs.Steps.{number-has}
-use Rattle.rump.proofs.constants.subrealmin.Statement.{statement}
-use Rattle.rump.proofs.constants.subrealmin.Tie as tie
+use Rattle.rump_premises.proofs.Values.{number-has}
+use Rattle.rump_premises.proofs.constants.subrealmin.Statement.{statement}
+use Rattle.rump_premises.proofs.constants.subrealmin.Tie as tie
 
 power-number-requires : tie.Need-power-number-requires
 power-number-requires c κs = (c .pre, omega (arith, known (c .pre) .admits .digits-low))

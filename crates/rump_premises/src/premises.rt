@@ -14,7 +14,7 @@ ghost use lib.Dec.{ltb};
 ghost use Rattle.format.specs.Formats.{admitted};
 ghost use Rattle.number.specs.Entry.{Usable};
 ghost use Rattle.number.specs.Numbers.{member, magnitude};
-ghost use Rattle.rump.specs.Routes.{premise, firstPremise, lastPremise};
+ghost use Rattle.rump_premises.specs.Premises.{premise, firstPremise, lastPremise};
 
 // Emin ≤ -p and p ≤ Emax.
 fn exponents_suffice(prepared: Prepared) -> bool

@@ -24,8 +24,8 @@ use Rattle.number.specs.Numbers.{member, magnitude, greatest}
 use Rattle.number.proofs.Membership.{members, known}
 use Rattle.number.proofs.Values.{member-wide, member-greatest}
 use Rattle.arithmetic.proofs.Prepared.{parts-above, parts-below}
-use Rattle.rump.specs.Steps.{one}
-use Rattle.rump.specs.Routes.{premise, firstPremise, lastPremise}
+use Rattle.rump_premises.specs.Values.{one}
+use Rattle.rump_premises.specs.Premises.{premise, firstPremise, lastPremise}
 
 pub first-power : (β : ℕ) → β ^ 1 ≡ β
 first-power β = pow-pred β {k = 1} (omega arith) ∙ rw (pow-zero β) (mul-one β)

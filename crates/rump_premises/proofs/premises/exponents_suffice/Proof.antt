@@ -1,4 +1,4 @@
--- `rump::premises::exponents_suffice` meets its contract.
+-- `rump_premises::premises::exponents_suffice` meets its contract.
 use borrow.Author.Needs.{needs}
 use mathlib.Core.Path.{_≡_, ap₂, _∙_}
 use native.Mathlib.Omega.{arith}
@@ -10,9 +10,9 @@ use Rattle.format.proofs.Signed.{back}
 use Rattle.number.specs.Exponents.{aboveZero, belowZero}
 use Rattle.number.proofs.Membership.{known}
 use Rattle.number.proofs.Values.{emin-admitted}
-use Rattle.rump.proofs.Reach.{reach, premise-by}
-use Rattle.rump.proofs.premises.exponents_suffice.Statement.{statement}
-use Rattle.rump.proofs.premises.exponents_suffice.Tie as tie
+use Rattle.rump_premises.proofs.Reach.{reach, premise-by}
+use Rattle.rump_premises.proofs.premises.exponents_suffice.Statement.{statement}
+use Rattle.rump_premises.proofs.premises.exponents_suffice.Tie as tie
 
 emin-fits : (c : tie.Start) → SFits w32 (c .args .prepared .format .emin)
 emin-fits c = search needs

@@ -8,8 +8,8 @@ ghost use mathlib.Core.Bool.{true};
 ghost use Prim.Native.Nat.{_*_, _≤_, _^_};
 ghost use lib.IntN.{pos};
 ghost use Rattle.number.specs.Entry.{Usable};
-ghost use Rattle.rump.specs.Steps.{one, Has};
-ghost use Rattle.rump.specs.Routes.{premise};
+ghost use Rattle.rump_premises.specs.Values.{one, Has};
+ghost use Rattle.rump_premises.specs.Premises.{premise};
 
 // Subrealmin, the smallest positive number: one unit.
 pub fn subrealmin(prepared: Prepared) -> Number
