@@ -1,10 +1,10 @@
--- `fast_two_sum::check::is_result` meets its contract.
+-- `fast_two_sum_check::check::is_result` meets its contract.
 use borrow.Author.Needs.{needs}
 use mathlib.Core.Path.{sym, ap, _∙_}
 use Rattle.number.specs.declared.Answer.{Answer}
-use Rattle.fast_two_sum.specs.Calls.{isResult}
-use Rattle.fast_two_sum.proofs.check.is_result.Statement.{statement}
-use Rattle.fast_two_sum.proofs.check.is_result.Tie as tie
+use Rattle.fast_two_sum_check.specs.Calls.{isResult}
+use Rattle.fast_two_sum_check.proofs.check.is_result.Statement.{statement}
+use Rattle.fast_two_sum_check.proofs.check.is_result.Tie as tie
 
 enum-told : tie.Need-enum-told
 enum-told c = search needs

@@ -1,11 +1,11 @@
--- `fast_two_sum::check::is_triple` meets its contract.
+-- `fast_two_sum_check::check::is_triple` meets its contract.
 use borrow.Author.Needs.{needs}
 use mathlib.Core.Path.{sym, _∙_}
 use Rattle.theory.specs.Tests.{_and_}
 use Rattle.theory.proofs.Tests.{never, denied, granted, and-left, and-right, refuted}
-use Rattle.fast_two_sum.specs.Calls.{isTriple}
-use Rattle.fast_two_sum.proofs.check.is_triple.Statement.{statement}
-use Rattle.fast_two_sum.proofs.check.is_triple.Tie as tie
+use Rattle.fast_two_sum_check.specs.Calls.{isTriple}
+use Rattle.fast_two_sum_check.proofs.check.is_triple.Statement.{statement}
+use Rattle.fast_two_sum_check.proofs.check.is_triple.Tie as tie
 
 is-faithful-sum-requires : tie.Need-is-faithful-sum-requires
 is-faithful-sum-requires c κs = search needs

@@ -1,4 +1,4 @@
--- `fast_two_sum::check::is_fast_two_sum` meets its contract.
+-- `fast_two_sum_check::check::is_fast_two_sum` meets its contract.
 use borrow.Author.Needs.{needs}
 use mathlib.Core.Path.{_≡_, sym, ap, _∙_}
 use mathlib.Core.Bool.{Bool, cond}
@@ -6,12 +6,13 @@ use mathlib.Core.List.{[], _∷_}
 use Rattle.format.specs.declared.Prepared.{Prepared}
 use Rattle.number.proofs.Membership.{usable}
 use Rattle.number.proofs.Entries.{Passed, passed, goes-on, ends}
 use Rattle.fast_two_sum.specs.declared.Checked.the-variants.{Yes, No, Refused}
-use Rattle.fast_two_sum.specs.Calls.{isTriple, checkedTriple}
 use Rattle.fast_two_sum.proofs.Order.{order-passed, order-refused}
-use Rattle.fast_two_sum.proofs.Entered.{five, prepared-member}
-use Rattle.fast_two_sum.proofs.check.is_fast_two_sum.Statement.{statement}
-use Rattle.fast_two_sum.proofs.check.is_fast_two_sum.Tie as tie
+use Rattle.fast_two_sum.proofs.Entered.{prepared-member}
+use Rattle.fast_two_sum_check.specs.Calls.{isTriple, checkedTriple}
+use Rattle.fast_two_sum_check.proofs.Entered.{five}
+use Rattle.fast_two_sum_check.proofs.check.is_fast_two_sum.Statement.{statement}
+use Rattle.fast_two_sum_check.proofs.check.is_fast_two_sum.Tie as tie
 
 enter-check-requires : tie.Need-enter-check-requires
 enter-check-requires c κs = search needs

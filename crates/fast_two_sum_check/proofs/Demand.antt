@@ -26,17 +26,18 @@ use Rattle.number.proofs.Membership.{Member, members, member-made}
 use Rattle.number.proofs.Values.{member-greatest}
 use Rattle.number.proofs.Entries.{after-passed, entry-made, pair-made}
 use Rattle.arithmetic.specs.Operations.{roundedZ}
 use Rattle.fast_two_sum.specs.declared.StepsAnswer.the-variants as steps
 use Rattle.fast_two_sum.specs.declared.Steps.{Steps}
 use Rattle.fast_two_sum.specs.declared.Checked.the-variants as checked
 use Rattle.fast_two_sum.specs.Triples.{Summands, Triple, distance}
-use Rattle.fast_two_sum.specs.Calls.{isTriple, threeSteps, fastTwoSum, checkedTriple}
+use Rattle.fast_two_sum.specs.Calls.{threeSteps, fastTwoSum}
 use Rattle.fast_two_sum.proofs.Bounds.{none, value-size, value-wide}
 use Rattle.fast_two_sum.proofs.Order.{binary-made, order-made}
 use Rattle.fast_two_sum.proofs.Entered.{Directed}
 use Rattle.fast_two_sum.proofs.Results.{Given, rounded-cases}
 use Rattle.fast_two_sum.proofs.Chain.{first-ends, three-given}
-use Rattle.fast_two_sum.proofs.Faithfulness.{test-triple, triple-test}
+use Rattle.fast_two_sum_check.specs.Calls.{isTriple, checkedTriple}
+use Rattle.fast_two_sum_check.proofs.Faithfulness.{test-triple, triple-test}
 
 -- x, z and y are the exact steps, each rounded in its own direction
 pub record Rounded (f : Format) (d₁ d₂ d₃ : Direction) (a b x z y : Number) : Type 0 where

@@ -1,7 +1,7 @@
 // The check: each of three numbers is faithful to its step exactly when it equals the step rounded down or rounded up.
-use crate::Checked;
-use crate::entry::check_order;
 use arithmetic::sum::add;
+use fast_two_sum::Checked;
+use fast_two_sum::entry::check_order;
 use format::Direction;
 use format::Format;
 use format::Preparation;
@@ -22,7 +22,7 @@ ghost use Rattle.format.specs.Formats.{admitted};
 ghost use Rattle.number.specs.declared.Answer.the-variants.{Value};
 ghost use Rattle.number.specs.Numbers.{equalZ, member, value};
 ghost use Rattle.number.specs.Entry.{Usable, entered};
-ghost use Rattle.fast_two_sum.specs.Calls.{isResult, isFaithful, isTriple, checkedTriple};
+ghost use Rattle.fast_two_sum_check.specs.Calls.{isResult, isFaithful, isTriple, checkedTriple};
 
 // Have a and b one value?
 fn same_value(format: Format, a: Number, b: Number) -> bool

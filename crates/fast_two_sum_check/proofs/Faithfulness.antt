@@ -2,22 +2,35 @@
 use mathlib.Core.Path.{_≡_, sym, ap, _∙_}
 use mathlib.Core.Bool.{Bool, true, false}
 use mathlib.Core.Logic.{_⊎_, inl, inr, ⊎-elim}
-use lib.IntN.{ℤ}
+use native.Mathlib.Omega.{arith}
+use lib.IntN.{ℤ, natAbs}
 use Rattle.theory.specs.Tests.{_and_, _or_}
-use Rattle.theory.specs.Round.{upward, downward}
+use Rattle.theory.specs.Round.{Direction, upward, downward}
+use Rattle.theory.specs.Signed.{roundZ}
 use Rattle.theory.specs.Faithful.{Faithful}
-use Rattle.theory.proofs.Tests.{and-left, and-right, and-made, or-cases, or-left, or-right}
+use Rattle.theory.proofs.Tests.{and-left, and-right, and-made, or-cases, or-left, or-right, refuted}
 use Rattle.theory.proofs.Faithful.{faithful-cases, cases-faithful}
 use Rattle.format.specs.declared.Format.{Format}
 use Rattle.format.proofs.Formats.{Admitted, positional}
 use Rattle.number.specs.declared.Number.{Number}
 use Rattle.number.specs.declared.Answer.{Answer}
-use Rattle.number.specs.Numbers.{member, value}
+use Rattle.number.specs.Numbers.{equalZ, member, value}
 use Rattle.number.proofs.Membership.{Member, member-made, equal-true, equal-made}
+use Rattle.number.proofs.Values.{member-greatest}
 use Rattle.arithmetic.specs.Operations.{roundedZ}
 use Rattle.fast_two_sum.specs.Triples.{Triple}
-use Rattle.fast_two_sum.specs.Calls.{isResult, isFaithful, isTriple}
-use Rattle.fast_two_sum.proofs.Results.{result-is}
+use Rattle.fast_two_sum.proofs.Bounds.{value-size}
+use Rattle.fast_two_sum.proofs.Results.{rounded-cases}
+use Rattle.fast_two_sum_check.specs.Calls.{isResult, isFaithful, isTriple}
+
+module _ {f : Format} (a : Admitted f) (d : Direction) (z : ℤ) where
+  -- the number that a step gives has the value that a number of the format is compared with
+  pub result-is : {x : Number} → Member f x → isResult f (roundedZ f d z) x ≡ equalZ (value f x) (roundZ (f .base) (f .digits) d z 1)
+  unfolding isResult
+  result-is {x} i =
+      ⊎-elim (λ g. ap (λ (s : Answer). isResult f s x) (g .1 .is) ∙ ap (equalZ (value f x)) (g .1 .same))
+      (λ b. ap (λ (s : Answer). isResult f s x) (b .is) ∙ refuted (λ h. omega (arith, b .beyond, ap natAbs (equal-true _ _ h), value-size f x, member-greatest a i)))
+      (rounded-cases a d z)
 
 module _ {f : Format} {x : Number} (a : Admitted f) (i : Member f x) (v : ℤ) where
   -- one of the two roundings is x

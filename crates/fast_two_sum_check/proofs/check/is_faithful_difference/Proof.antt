@@ -1,13 +1,13 @@
--- `fast_two_sum::check::is_faithful_difference` meets its contract.
+-- `fast_two_sum_check::check::is_faithful_difference` meets its contract.
 use borrow.Author.Needs.{needs}
 use mathlib.Core.Path.{ap, _∙_}
 use lib.IntN.{ℤ, _+ℤ_}
 use Rattle.number.specs.Numbers.{value}
 use Rattle.number.proofs.Membership.{known}
 use Rattle.arithmetic.proofs.Prepared.{turned-member, turned-value}
-use Rattle.fast_two_sum.specs.Calls.{isFaithful}
-use Rattle.fast_two_sum.proofs.check.is_faithful_difference.Statement.{statement}
-use Rattle.fast_two_sum.proofs.check.is_faithful_difference.Tie as tie
+use Rattle.fast_two_sum_check.specs.Calls.{isFaithful}
+use Rattle.fast_two_sum_check.proofs.check.is_faithful_difference.Statement.{statement}
+use Rattle.fast_two_sum_check.proofs.check.is_faithful_difference.Tie as tie
 
 with-sign-requires : tie.Need-with-sign-requires
 with-sign-requires c κs = search needs

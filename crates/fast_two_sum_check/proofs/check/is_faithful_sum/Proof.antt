@@ -1,12 +1,12 @@
--- `fast_two_sum::check::is_faithful_sum` meets its contract.
+-- `fast_two_sum_check::check::is_faithful_sum` meets its contract.
 use borrow.Author.Needs.{needs}
 use mathlib.Core.Path.{sym, _∙_}
 use Rattle.format.proofs.Formats.{Admitted}
 use Rattle.number.proofs.Membership.{Member, members, known}
 use Rattle.fast_two_sum.proofs.Results.{rounded-member}
-use Rattle.fast_two_sum.proofs.Faithfulness.{down-decides, up-decides}
-use Rattle.fast_two_sum.proofs.check.is_faithful_sum.Statement.{statement}
-use Rattle.fast_two_sum.proofs.check.is_faithful_sum.Tie as tie
+use Rattle.fast_two_sum_check.proofs.Faithfulness.{down-decides, up-decides}
+use Rattle.fast_two_sum_check.proofs.check.is_faithful_sum.Statement.{statement}
+use Rattle.fast_two_sum_check.proofs.check.is_faithful_sum.Tie as tie
 
 admits : (c : tie.Start) → Admitted (c .args .prepared .format)
 admits c = known (c .pre .0) .admits

@@ -1,4 +1,4 @@
--- `fast_two_sum::check::same_value` meets its contract.
+-- `fast_two_sum_check::check::same_value` meets its contract.
 use borrow.Author.Needs.{needs}
 use mathlib.Core.Path.{sym, ap, _∙_}
 use native.Mathlib.Omega.{arith}
@@ -6,8 +6,8 @@ use Rattle.theory.proofs.Tests.{refuted}
 use Rattle.theory.proofs.Integers.{above, below, lt-parts}
 use Rattle.number.proofs.Membership.{equal-true, equal-made}
 use Rattle.number.proofs.Comparison.{less-says, equal-says, greater-says, never-refused}
-use Rattle.fast_two_sum.proofs.check.same_value.Statement.{statement}
-use Rattle.fast_two_sum.proofs.check.same_value.Tie as tie
+use Rattle.fast_two_sum_check.proofs.check.same_value.Statement.{statement}
+use Rattle.fast_two_sum_check.proofs.check.same_value.Tie as tie
 
 compare-values-requires : tie.Need-compare-values-requires
 compare-values-requires c κs = search needs

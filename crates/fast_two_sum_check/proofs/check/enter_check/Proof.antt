@@ -1,7 +1,7 @@
--- `fast_two_sum::check::enter_check` meets its contract.
+-- `fast_two_sum_check::check::enter_check` meets its contract.
 use borrow.Author.Needs.{needs}
-use Rattle.fast_two_sum.proofs.check.enter_check.Statement.{statement}
-use Rattle.fast_two_sum.proofs.check.enter_check.Tie as tie
+use Rattle.fast_two_sum_check.proofs.check.enter_check.Statement.{statement}
+use Rattle.fast_two_sum_check.proofs.check.enter_check.Tie as tie
 
 enter-two-requires : tie.Need-enter-two-requires
 enter-two-requires c κs = search needs
