@@ -17,7 +17,8 @@ use Rattle.number.specs.Entry.{all, entry, after}
 use Rattle.units.specs.Places.{firstPlace, lastPlace, leastPlace}
 use Rattle.units.specs.Neighbours.{predecessorOf, successorOf}
 use Rattle.arithmetic.specs.Operations.{rounded, roundedZ, roundedQuotient, summed, divided}
-use Rattle.rump.specs.Routes.{premise, firstPremise, ufpRoute}
+use Rattle.rump_premises.specs.Premises.{premise, firstPremise}
+use Rattle.rump.specs.Routes.{ufpRoute}
 use Rattle.fast_two_sum.specs.Calls.{isBinary, ordered, then, threeSteps, fastTwoSum}
 use Rattle.edge_values.specs.Rows.{Row, Result, off, rows}
 

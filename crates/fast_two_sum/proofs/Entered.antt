@@ -27,25 +27,3 @@ directed p =
 -- a number of the format is one of the prepared format
 pub prepared-member : {f : Format} {directions : List ℕ} {numbers : List Number} {q : Prepared} (x : Number) → Passed f directions numbers q → member f x ≡ true → member (q .format) x ≡ true
 prepared-member x p h = ap (λ (r : Prepared). member (r .format) x) (p .is) ∙ h
-
--- the five numbers of the check
-pub record Five (f : Format) (a b x z y : Number) : Type 0 where
-  pub first : member f a ≡ true
-  pub second : member f b ≡ true
-  pub third : member f x ≡ true
-  pub fourth : member f z ≡ true
-  pub fifth : member f y ≡ true
-
-pub five : {f : Format} {a b x z y : Number} {q : Prepared} → Passed f [] (a ∷ b ∷ x ∷ z ∷ y ∷ []) q → Five f a b x z y
-unfolding all
-five p =
-    let r₁ = and-right _ _ (p .members) in
-    let r₂ = and-right _ _ r₁ in
-    let r₃ = and-right _ _ r₂ in
-    record {
-      first = and-left _ _ (p .members);
-      second = and-left _ _ r₁;
-      third = and-left _ _ r₂;
-      fourth = and-left _ _ r₃;
-      fifth = and-left _ _ (and-right _ _ r₃);
-    }

@@ -1,8 +1,6 @@
--- Demand 3, and laws of the three-step sum and its check.
+-- Demand 3, and laws of the three-step sum.
 pub mod Bounds
 pub mod Order
 pub mod Entered
 pub mod Results
 pub mod Chain
-pub mod Faithfulness
-pub mod Demand

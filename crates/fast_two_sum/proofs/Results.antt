@@ -1,26 +1,22 @@
 -- A step's answer: a number of the format with the rounded value, or refusal 5 where that is beyond the greatest number.
 use Prim.Native.Nat.{ℕ, _<_}
-use mathlib.Core.Path.{_≡_, refl, sym, ap, subst, _∙_}
+use mathlib.Core.Path.{_≡_, refl, sym, subst, _∙_}
 use mathlib.Core.Bool.{true}
 use mathlib.Core.Logic.{_⊎_, inl, inr, ⊎-elim}
 use native.Mathlib.Omega.{arith}
 use lib.IntN.{ℤ, natAbs}
 use Rattle.theory.specs.Round.{Direction, round}
 use Rattle.theory.specs.Signed.{roundZ}
-use Rattle.theory.proofs.Tests.{refuted}
 use Rattle.format.specs.declared.Format.{Format}
 use Rattle.format.specs.declared.Refusal.the-variants.{TooLarge}
 use Rattle.format.proofs.Formats.{Admitted}
 use Rattle.number.specs.declared.Number.{Number}
 use Rattle.number.specs.declared.Answer.{Answer}
 use Rattle.number.specs.declared.Answer.the-variants.{Value, Refused}
-use Rattle.number.specs.Numbers.{equalZ, member, value, greatest, number}
-use Rattle.number.proofs.Membership.{Member, members, member-made, equal-true}
-use Rattle.number.proofs.Values as values
+use Rattle.number.specs.Numbers.{member, value, greatest, number}
+use Rattle.number.proofs.Membership.{Member, members, member-made}
 use Rattle.arithmetic.proofs.Outcome.{Outcome, given, too-large, roundedZ-outcome}
 use Rattle.arithmetic.specs.Operations.{rounded, roundedZ}
-use Rattle.fast_two_sum.specs.Calls.{isResult}
-use Rattle.fast_two_sum.proofs.Bounds.{value-size}
 
 -- the answer is a number y of the format that has the value v
 pub record Given (f : Format) (answer : Answer) (v : ℤ) (y : Number) : Type 0 where
@@ -48,11 +44,3 @@ module _ {f : Format} (a : Admitted f) (d : Direction) (z : ℤ) where
     where
       by : (x : Number) → Given f (roundedZ f d z) (roundZ (f .base) (f .digits) d z 1) x → member f y ≡ true
       by x g = let e : Value x ≡ Value y = sym (g .is) ∙ h in let same : x ≡ y = cc in subst (λ (n : Number). member f n ≡ true) same (member-made x a (g .number))
-
-  -- and has the value that a number of the format is compared with
-  pub result-is : {x : Number} → Member f x → isResult f (roundedZ f d z) x ≡ equalZ (value f x) (roundZ (f .base) (f .digits) d z 1)
-  unfolding isResult
-  result-is {x} i =
-      ⊎-elim (λ g. ap (λ (s : Answer). isResult f s x) (g .1 .is) ∙ ap (equalZ (value f x)) (g .1 .same))
-      (λ b. ap (λ (s : Answer). isResult f s x) (b .is) ∙ refuted (λ h. omega (arith, b .beyond, ap natAbs (equal-true _ _ h), value-size f x, values.member-greatest a i)))
-      rounded-cases

@@ -1,12 +1,10 @@
--- What the three-step sum and its check answer.
+-- What the three-step sum answers, and the refusals that it shares with its check.
 use Prim.Native.Nat.{ℕ}
-use mathlib.Core.Bool.{Bool, false, cond}
+use mathlib.Core.Bool.{Bool}
 use mathlib.Core.List.{[], _∷_}
 use lib.Dec.{leb, eqb}
-use lib.IntN.{ℤ, _+ℤ_, _-ℤ_}
-use Rattle.theory.specs.Tests.{_and_, _or_, unless}
-use Rattle.theory.specs.Round.{Direction, upward, downward}
-use Rattle.theory.specs.Signed.{roundZ}
+use Rattle.theory.specs.Tests.{_and_, unless}
+use Rattle.theory.specs.Round.{Direction}
 use Rattle.format.specs.declared.Format.{Format}
 use Rattle.format.specs.declared.Refusal.{Refusal}
 use Rattle.format.specs.declared.Refusal.the-variants.{NotBinary, SmallerFirst}
@@ -14,14 +12,12 @@ use Rattle.format.specs.Directions.{direction}
 use Rattle.number.specs.declared.Number.{Number}
 use Rattle.number.specs.declared.Answer.{Answer}
 use Rattle.number.specs.declared.Answer.the-variants as answer
-use Rattle.number.specs.Numbers.{equalZ, magnitude, value}
+use Rattle.number.specs.Numbers.{magnitude}
 use Rattle.number.specs.Entry.{entry, after}
 use Rattle.arithmetic.specs.Operations.{roundedSum, roundedDifference}
 use Rattle.fast_two_sum.specs.declared.Steps.{Steps}
 use Rattle.fast_two_sum.specs.declared.StepsAnswer.{StepsAnswer}
 use Rattle.fast_two_sum.specs.declared.StepsAnswer.the-variants as steps
-use Rattle.fast_two_sum.specs.declared.Checked.{Checked}
-use Rattle.fast_two_sum.specs.declared.Checked.the-variants as checked
 
 -- base 2 and at least 2 digits
 unfoldable pub isBinary : Format → Bool
@@ -50,25 +46,3 @@ unfoldable pub fastTwoSum : Format → (d₁ d₂ d₃ : ℕ) (a b : Number) →
 fastTwoSum f d₁ d₂ d₃ a b =
     after (entry f (d₁ ∷ d₂ ∷ d₃ ∷ []) (a ∷ b ∷ [])) steps.Refused
     (ordered f a b steps.Refused (threeSteps f (direction d₁) (direction d₂) (direction d₃) a b))
-
--- ---- the check
--- r is faithful to v, as it is computed: v rounded down or up in the wide format
-unfoldable pub isFaithful : Format → (v r : ℤ) → Bool
-isFaithful f v r = equalZ r (roundZ (f .base) (f .digits) downward v 1) or equalZ r (roundZ (f .base) (f .digits) upward v 1)
-
--- x has the value that a step gave
-unfoldable pub isResult : Format → Answer → Number → Bool
-isResult f (answer.Value r) x = equalZ (value f x) (value f r)
-isResult f (answer.Refused why) x = false
-
-unfoldable pub isTriple : Format → (a b x z y : Number) → Bool
-isTriple f a b x z y =
-    isFaithful f (value f a +ℤ value f b) (value f x)
-    and isFaithful f (value f x -ℤ value f a) (value f z)
-    and isFaithful f (value f b -ℤ value f z) (value f y)
-
--- the answer of is_fast_two_sum
-unfoldable pub checkedTriple : Format → (a b x z y : Number) → Checked
-checkedTriple f a b x z y =
-    after (entry f [] (a ∷ b ∷ x ∷ z ∷ y ∷ [])) checked.Refused
-    (ordered f a b checked.Refused (cond (isTriple f a b x z y) checked.Yes checked.No))

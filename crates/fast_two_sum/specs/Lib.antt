@@ -1,3 +1,3 @@
--- Demand 3, and what the three-step sum and its check answer.
+-- Demand 3, and what the three-step sum answers.
 pub mod Triples
 pub mod Calls

@@ -1,5 +1,4 @@
-// The three-step sum (FastTwoSum) of two numbers of a binary format, and the check whether three numbers are such a sum.
-pub mod check;
+// The three-step sum (FastTwoSum) of two numbers of a binary format, and what the sum and its check answer.
 pub mod entry;
 pub mod sum;
 

@@ -15,7 +15,8 @@ use Rattle.number.specs.declared.Answer.the-variants.{Value, Refused}
 use Rattle.number.specs.Numbers.{magnitude, number}
 use Rattle.number.specs.Entry.{entered}
 use Rattle.units.proofs.Entered.{answered}
-use Rattle.rump.specs.Routes.{firstPremise, lastPremise, ufpRoute, ulpRoute}
+use Rattle.rump_premises.specs.Premises.{firstPremise, lastPremise}
+use Rattle.rump.specs.Routes.{ufpRoute, ulpRoute}
 
 abbrev pub ufpNumber : Format → Number → Number
 ufpNumber f x = number f false (ufp (f .base) (magnitude f x))

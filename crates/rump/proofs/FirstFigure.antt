@@ -24,8 +24,9 @@ use Rattle.number.specs.declared.Answer.{Answer}
 use Rattle.number.specs.Exponents.{belowZero}
 use Rattle.number.specs.Numbers.{greatest}
 use Rattle.arithmetic.specs.Operations.{roundedSum, roundedDifference, roundedProduct}
-use Rattle.rump.specs.Steps.{one, Has, Gives}
-use Rattle.rump.proofs.Reach.{First, one-positive, power-most, constant-most}
+use Rattle.rump_premises.specs.Values.{one, Has}
+use Rattle.rump_premises.proofs.Reach.{First, one-positive, power-most, constant-most}
+use Rattle.rump.specs.Steps.{Gives}
 use Rattle.rump.proofs.Steps.{renamed, sum-gives, difference-gives, product-gives}
 
 module _ {f : Format} {n : ℕ} (k : First f n) where

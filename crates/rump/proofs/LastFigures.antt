@@ -19,8 +19,9 @@ use Rattle.number.specs.Exponents.{belowZero}
 use Rattle.number.specs.Numbers.{greatest}
 use Rattle.number.proofs.Values.{greatest-wide}
 use Rattle.arithmetic.specs.Operations.{roundedSum, roundedDifference, roundedProduct}
-use Rattle.rump.specs.Steps.{one, Has, Gives}
-use Rattle.rump.proofs.Reach.{Last, first-power, one-positive, constant-most}
+use Rattle.rump_premises.specs.Values.{one, Has}
+use Rattle.rump_premises.proofs.Reach.{Last, first-power, one-positive, constant-most}
+use Rattle.rump.specs.Steps.{Gives}
 use Rattle.rump.proofs.Steps.{renamed, sum-gives, difference-gives, product-gives}
 
 less-one : (c B t : ℕ) → B ≡ c + 1 → t + c * t ≡ B * t

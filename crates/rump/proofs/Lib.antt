@@ -1,5 +1,4 @@
 -- Laws of Rump's routes.
-pub mod Reach
 pub mod Entered
 pub mod Steps
 pub mod FirstFigure

@@ -16,7 +16,8 @@ use Rattle.number.specs.Numbers.{member}
 use Rattle.number.proofs.Membership.{Member, members}
 use Rattle.units.specs.Places.{firstPlace, lastPlace}
 use Rattle.units.proofs.Entered.{checked}
-use Rattle.rump.specs.Routes.{premise, firstPremise, lastPremise, ufpRoute, ulpRoute}
+use Rattle.rump_premises.specs.Premises.{premise, firstPremise, lastPremise}
+use Rattle.rump.specs.Routes.{ufpRoute, ulpRoute}
 
 module _ (f : Format) (x : Number) where
   -- refused numbers too

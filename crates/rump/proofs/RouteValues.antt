@@ -19,7 +19,8 @@ use Rattle.number.specs.declared.Answer.the-variants.{Value, Refused}
 use Rattle.number.specs.Numbers.{equalZ, normal, small, isZero, member, magnitude, value, greatest, number, delivered}
 use Rattle.number.specs.Entry.{all, entry, after}
 use Rattle.arithmetic.specs.Operations.{rounded, roundedZ, roundedProduct, summed, subtracted, multiplied}
-use Rattle.rump.specs.Routes.{premise, firstPremise, ufpRoute}
+use Rattle.rump_premises.specs.Premises.{premise, firstPremise}
+use Rattle.rump.specs.Routes.{ufpRoute}
 
 abbrev decimal : (emin : ℤ) → Format
 decimal emin = record { base = 10; digits = 3; emin = emin; emax = pos 3 }

@@ -2,16 +2,15 @@
 use Prim.Native.Nat.{ℕ, _*_, _^_, _≤_}
 use mathlib.Core.Path.{_≡_, refl, sym, ap, ap₂, _∙_}
 use mathlib.Core.Bool.{true, false, xor}
-use native.Mathlib.Nat.{mul-one, one-mul, pow-zero}
+use native.Mathlib.Nat.{mul-one, pow-zero}
 use native.Mathlib.Omega.{arith}
 use lib.IntN.{ℤ, pos, natAbs, _*ℤ_}
 use lib.Signed.{_<ℤ_}
 use Rattle.theory.specs.Round.{Direction}
-use Rattle.theory.specs.Wide.{Wide}
 use Rattle.theory.specs.Signed.{signed, roundZ}
 use Rattle.theory.specs.Rump.{sum, difference, product}
 use Rattle.theory.proofs.Powers.{pow-pos}
-use Rattle.theory.proofs.Integers.{above, below, lt-parts, size-signed}
+use Rattle.theory.proofs.Integers.{above, below, lt-parts}
 use Rattle.format.specs.declared.Format.{Format}
 use Rattle.format.specs.declared.Refusal.{Refusal}
 use Rattle.format.proofs.Formats.{Admitted}
@@ -24,13 +23,13 @@ use Rattle.number.specs.Numbers.{member, magnitude, value, greatest, number}
 use Rattle.number.specs.Order.{orderZ}
 use Rattle.number.specs.Signs.{withSign}
 use Rattle.number.proofs.Membership.{members, member-made}
-use Rattle.number.proofs.Values.{number-same, number-of, own-sign, number-member, number-value}
+use Rattle.number.proofs.Values.{number-same, number-of, own-sign}
 use Rattle.number.proofs.Negation.{signed-member, unsigned-value}
 use Rattle.wide.proofs.Signs.{signed-times}
 use Rattle.arithmetic.specs.Operations.{roundedSum, roundedDifference, roundedProduct}
 use Rattle.arithmetic.proofs.Outcome.{Outcome, given, too-large, rounded-outcome, roundedZ-outcome}
-use Rattle.rump.specs.Steps.{one, Has, Gives}
-use Rattle.rump.proofs.Reach.{first-power}
+use Rattle.rump_premises.specs.Values.{one, Has}
+use Rattle.rump.specs.Steps.{Gives}
 
 inside : {x y : Number} → Value x ≡ Value y → x ≡ y
 inside e = cc
@@ -48,26 +47,7 @@ module _ {f : Format} {r : Answer} {v : ℤ} (g : Gives f r v) where
   pub renamed : {w : ℤ} → v ≡ w → Gives f r w
   renamed h = rw h at g
 
--- ---- the constants 1 and β
-pub has-one : {f : Format} {x : Number} → Has f x (pos (f .base ^ 0 * one f)) → Has f x (pos (one f))
-has-one {f} h = rw (pow-zero (f .base), one-mul (one f)) at h
-
-pub has-base : {f : Format} {x : Number} → Has f x (pos (f .base ^ 1 * one f)) → Has f x (pos (f .base * one f))
-has-base {f} h = rw (first-power (f .base)) at h
-
-module _ {f : Format} {x : Number} {n : ℕ} (h : Has f x (pos n)) where
-  pub has-size : magnitude f x ≡ n
-  unfolding value
-  has-size = sym (size-signed (x .negative) (magnitude f x)) ∙ ap natAbs (h .is)
-
-  pub has-own : Has f x (pos (magnitude f x))
-  has-own = rw has-size h
-
 module _ {f : Format} (a : Admitted f) where
-  -- a magnitude of the wide format, up to the greatest number
-  pub number-has : {n : ℕ} → Wide (f .base) (f .digits) n → n ≤ greatest f → {x : Number} → x ≡ number f false n → Has f x (pos n)
-  number-has w l e = rw e (record { number = member-made _ a (number-member a w false l); is = number-value a w false })
-
   -- the number is known by its value
   pub gives-number : {r : Answer} {n : ℕ} → Gives f r (pos n) → r ≡ Value (number f false n)
   unfolding value

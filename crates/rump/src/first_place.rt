@@ -1,7 +1,4 @@
 // Rump's route to the first place (figure 1), rounded toward zero.
-use crate::constants::power;
-use crate::constants::subrealmin;
-use crate::premises::first_premise;
 use arithmetic::product::multiply;
 use arithmetic::sum::add;
 use arithmetic::sum::subtract;
@@ -14,6 +11,9 @@ use number::Answer;
 use number::Number;
 use number::entry::enter;
 use number::signs::with_sign;
+use rump_premises::constants::power;
+use rump_premises::constants::subrealmin;
+use rump_premises::premises::first_premise;
 ghost use mathlib.Core.Path.{_≡_};
 ghost use mathlib.Core.Bool.{true, false};
 ghost use lib.IntN.{pos};
@@ -22,8 +22,10 @@ ghost use Rattle.theory.specs.Units.{ufp};
 ghost use Rattle.number.specs.declared.Answer.the-variants.{Value};
 ghost use Rattle.number.specs.Entry.{Usable};
 ghost use Rattle.number.specs.Numbers as numbers;
-ghost use Rattle.rump.specs.Steps.{one, Has, Gives};
-ghost use Rattle.rump.specs.Routes.{firstPremise, ufpRoute};
+ghost use Rattle.rump_premises.specs.Values.{one, Has};
+ghost use Rattle.rump_premises.specs.Premises.{firstPremise};
+ghost use Rattle.rump.specs.Steps.{Gives};
+ghost use Rattle.rump.specs.Routes.{ufpRoute};
 
 // Lines 3 and 4: q = (base^(p - 1) + 1) * f.
 fn scaled(prepared: Prepared, f: Number) -> Answer

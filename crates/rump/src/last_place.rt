@@ -1,7 +1,4 @@
 // Rump's routes to the last place: up (figure 3), toward zero (figure 4), and toward zero without a test (figure 5).
-use crate::constants::power;
-use crate::constants::subrealmin;
-use crate::premises::last_premise;
 use arithmetic::product::multiply;
 use arithmetic::sum::add;
 use arithmetic::sum::subtract;
@@ -16,6 +13,9 @@ use number::Ordered;
 use number::entry::enter;
 use number::order::compare_values;
 use number::signs::with_sign;
+use rump_premises::constants::power;
+use rump_premises::constants::subrealmin;
+use rump_premises::premises::last_premise;
 ghost use mathlib.Core.Path.{_≡_};
 ghost use mathlib.Core.Bool.{true, false};
 ghost use lib.IntN.{pos};
@@ -24,8 +24,10 @@ ghost use Rattle.theory.specs.Units.{ulp};
 ghost use Rattle.number.specs.declared.Answer.the-variants.{Value};
 ghost use Rattle.number.specs.Entry.{Usable};
 ghost use Rattle.number.specs.Numbers as numbers;
-ghost use Rattle.rump.specs.Steps.{Has, Gives};
-ghost use Rattle.rump.specs.Routes.{lastPremise, ulpRoute};
+ghost use Rattle.rump_premises.specs.Values.{Has};
+ghost use Rattle.rump_premises.specs.Premises.{lastPremise};
+ghost use Rattle.rump.specs.Steps.{Gives};
+ghost use Rattle.rump.specs.Routes.{ulpRoute};
 
 // Figure 3: S = (f + subrealmin) - f, rounded up.
 fn upward_steps(prepared: Prepared, x: Number) -> Answer

@@ -1,5 +1,3 @@
 // Rump's routes: the first place and the last place of a number by the engine's own operations alone.
-pub mod constants;
 pub mod first_place;
 pub mod last_place;
-pub mod premises;

@@ -5,9 +5,11 @@ use mathlib.Core.Path.{subst}
 use native.Mathlib.Omega.{arith}
 use lib.IntN.{pos}
 use Rattle.number.proofs.Membership.{known}
-use Rattle.rump.specs.Steps.{one, Has, Gives}
-use Rattle.rump.proofs.Reach.{first, first-format}
-use Rattle.rump.proofs.Steps.{taken, not-refused, has-one}
+use Rattle.rump_premises.specs.Values.{one, Has}
+use Rattle.rump_premises.proofs.Reach.{first, first-format}
+use Rattle.rump_premises.proofs.Values.{has-one}
+use Rattle.rump.specs.Steps.{Gives}
+use Rattle.rump.proofs.Steps.{taken, not-refused}
 use Rattle.rump.proofs.FirstFigure.{phi-gives, scaled-gives}
 use Rattle.rump.proofs.first_place.scaled.Statement.{statement}
 use Rattle.rump.proofs.first_place.scaled.Tie as tie

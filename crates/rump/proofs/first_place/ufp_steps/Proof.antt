@@ -7,9 +7,11 @@ use Rattle.theory.specs.Round.{toward-zero}
 use Rattle.theory.specs.Rump.{product, below-one, scaled-up}
 use Rattle.number.specs.Numbers.{magnitude}
 use Rattle.number.proofs.Membership.{known}
-use Rattle.rump.specs.Steps.{one, Has, Gives}
-use Rattle.rump.proofs.Reach.{First, first, first-format, first-same}
-use Rattle.rump.proofs.Steps.{taken, not-refused, renamed, has-one, has-size, has-own, gives-number, magnitude-has}
+use Rattle.rump_premises.specs.Values.{one, Has}
+use Rattle.rump_premises.proofs.Reach.{First, first, first-format, first-same}
+use Rattle.rump_premises.proofs.Values.{has-one, has-size, has-own}
+use Rattle.rump.specs.Steps.{Gives}
+use Rattle.rump.proofs.Steps.{taken, not-refused, renamed, gives-number, magnitude-has}
 use Rattle.rump.proofs.FirstFigure.{below-one-gives, shrunk-gives, first-gives}
 use Rattle.rump.proofs.first_place.ufp_steps.Statement.{statement}
 use Rattle.rump.proofs.first_place.ufp_steps.Tie as tie

@@ -4,8 +4,9 @@ use lib.IntN.{pos}
 use Rattle.theory.specs.Round.{toward-zero}
 use Rattle.theory.specs.Rump.{sum, difference, gap-below}
 use Rattle.number.specs.Numbers.{magnitude}
-use Rattle.rump.specs.Steps.{Has, Gives}
-use Rattle.rump.proofs.Reach.{Last, last}
+use Rattle.rump_premises.specs.Values.{Has}
+use Rattle.rump_premises.proofs.Reach.{Last, last}
+use Rattle.rump.specs.Steps.{Gives}
 use Rattle.rump.proofs.Steps.{taken, not-refused}
 use Rattle.rump.proofs.LastFigures.{raised-gives, back-gives, defect-gives}
 use Rattle.rump.proofs.last_place.defect.Statement.{statement}

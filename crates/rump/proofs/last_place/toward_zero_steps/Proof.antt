@@ -12,9 +12,11 @@ use Rattle.number.specs.Numbers.{magnitude, number}
 use Rattle.number.specs.Order.{orderZ}
 use Rattle.number.proofs.Membership.{known}
 use Rattle.number.proofs.Comparison.{less-says, equal-says, greater-says, never-refused}
-use Rattle.rump.specs.Steps.{Has, Gives}
-use Rattle.rump.proofs.Reach.{Last, last, last-format, last-same}
-use Rattle.rump.proofs.Steps.{taken, not-refused, renamed, has-base, has-size, has-own, gives-number, magnitude-has, compare-gives, apart-values}
+use Rattle.rump_premises.specs.Values.{Has}
+use Rattle.rump_premises.proofs.Reach.{Last, last, last-format, last-same}
+use Rattle.rump_premises.proofs.Values.{has-base, has-size, has-own}
+use Rattle.rump.specs.Steps.{Gives}
+use Rattle.rump.proofs.Steps.{taken, not-refused, renamed, gives-number, magnitude-has, compare-gives, apart-values}
 use Rattle.rump.proofs.LastFigures.{raised-gives, corrected-gives, gap-last}
 use Rattle.rump.proofs.last_place.toward_zero_steps.Statement.{statement}
 use Rattle.rump.proofs.last_place.toward_zero_steps.Tie as tie

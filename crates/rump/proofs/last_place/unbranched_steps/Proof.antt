@@ -9,10 +9,12 @@ use Rattle.theory.specs.Round.{toward-zero}
 use Rattle.theory.specs.Rump.{product, gap-below, gap-defect}
 use Rattle.number.specs.Numbers.{magnitude}
 use Rattle.number.proofs.Membership.{known}
-use Rattle.rump.specs.Steps.{one, Has, Gives}
-use Rattle.rump.specs.Routes.{lastPremise}
-use Rattle.rump.proofs.Reach.{Last, last, last-format, last-same}
-use Rattle.rump.proofs.Steps.{taken, not-refused, renamed, has-one, has-base, has-size, has-own, gives-number, magnitude-has}
+use Rattle.rump_premises.specs.Values.{one, Has}
+use Rattle.rump_premises.specs.Premises.{lastPremise}
+use Rattle.rump_premises.proofs.Reach.{Last, last, last-format, last-same}
+use Rattle.rump_premises.proofs.Values.{has-one, has-base, has-size, has-own}
+use Rattle.rump.specs.Steps.{Gives}
+use Rattle.rump.proofs.Steps.{taken, not-refused, renamed, gives-number, magnitude-has}
 use Rattle.rump.proofs.LastFigures.{base-pred-gives, correction-gives, unbranched-gives}
 use Rattle.rump.proofs.last_place.unbranched_steps.Statement.{statement}
 use Rattle.rump.proofs.last_place.unbranched_steps.Tie as tie

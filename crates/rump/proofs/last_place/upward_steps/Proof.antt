@@ -5,8 +5,9 @@ use Rattle.theory.specs.Round.{upward}
 use Rattle.theory.specs.Rump.{sum}
 use Rattle.number.specs.Numbers.{magnitude}
 use Rattle.number.proofs.Membership.{known}
-use Rattle.rump.specs.Steps.{Has, Gives}
-use Rattle.rump.proofs.Reach.{Last, last}
+use Rattle.rump_premises.specs.Values.{Has}
+use Rattle.rump_premises.proofs.Reach.{Last, last}
+use Rattle.rump.specs.Steps.{Gives}
 use Rattle.rump.proofs.Steps.{taken, not-refused, gives-number, magnitude-has}
 use Rattle.rump.proofs.LastFigures.{after-gives, upward-gives}
 use Rattle.rump.proofs.last_place.upward_steps.Statement.{statement}

@@ -1,0 +1,2 @@
+-- What the check of a three-step sum answers.
+pub mod Calls
