@@ -30,10 +30,10 @@ use Rattle.wide.specs.Product.{multiplied}
 use Rattle.wide.specs.Quotient.{divided}
 use Rattle.decimal32_wide.specs.Scale.{decimal}
 use Rattle.arithmetic.specs.Decimal32.{isDecimal32, isCall}
-use Rattle.arithmetic.specs.Operands.{wideOf}
-use Rattle.arithmetic.specs.Operations.{roundedSum, roundedProduct, roundedQuotient}
+use Rattle.prepared_arithmetic.specs.Operands.{wideOf}
+use Rattle.prepared_arithmetic.specs.Operations.{roundedSum, roundedProduct, roundedQuotient}
 use Rattle.arithmetic.proofs.Entered.{answered}
-use Rattle.arithmetic.proofs.Prepared.{Delivers, operand, sum-delivers, product-delivers, quotient-delivers}
+use Rattle.prepared_arithmetic.proofs.Prepared.{Delivers, operand, sum-delivers, product-delivers, quotient-delivers}
 
 -- ---- the test is passed by decimal32 and by no other format
 pub decimal32-passes : isDecimal32 decimal32 ≡ true

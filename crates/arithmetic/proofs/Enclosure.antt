@@ -14,8 +14,8 @@ use Rattle.number.specs.declared.Number.{Number}
 use Rattle.number.specs.declared.Answer.{Answer}
 use Rattle.number.specs.declared.Answer.the-variants.{Value}
 use Rattle.number.specs.Numbers.{value}
-use Rattle.arithmetic.specs.Operations.{summed}
-use Rattle.arithmetic.proofs.Outcome.{Given}
+use Rattle.prepared_arithmetic.specs.Operations.{summed}
+use Rattle.prepared_arithmetic.proofs.Outcome.{Given}
 use Rattle.arithmetic.proofs.Calls.{Rounds, summed-rounds}
 
 -- ---- every operation, by the fraction N / D that its answer rounds

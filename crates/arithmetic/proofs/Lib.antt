@@ -1,11 +1,7 @@
--- The laws that the operations' proofs go by, and the laws that a user expects.
-pub mod Prepared
+-- The laws that the calls' proofs go by, and the laws that a user expects.
 pub mod Entered
 pub mod DecimalFormat
--- what an answer says of the exact result
-pub mod Outcome
+-- what a call's answer says of the exact result
 pub mod Calls
 pub mod Algebra
 pub mod Enclosure
-pub mod Fractions
-pub mod Results

@@ -1,4 +1,2 @@
--- What the four operations answer.
-pub mod Operands
+-- Where the operations of decimal32 answer a call.
 pub mod Decimal32
-pub mod Operations

@@ -1,7 +1,5 @@
 // Sum, product and quotient of decimal32, published format 3: the same results with the format's powers as constants. The public
 // calls come here where `is_call` says yes.
-use crate::operands::deliver_wide;
-use crate::operands::wide_of;
 use format::Direction;
 use format::Format;
 use format::Prepared;
@@ -11,6 +9,8 @@ use format::directions::is_direction;
 use number::Answer;
 use number::Number;
 use number::members::is_member;
+use prepared_arithmetic::operands::deliver_wide;
+use prepared_arithmetic::operands::wide_of;
 ghost use mathlib.Core.Path.{_≡_};
 ghost use mathlib.Core.Bool.{true};
 ghost use Rattle.format.specs.Directions.{sense};
@@ -18,7 +18,7 @@ ghost use Rattle.format.specs.Formats.{preparedOf};
 ghost use Rattle.format.specs.Published.{decimal32};
 ghost use Rattle.number.specs.Numbers.{member};
 ghost use Rattle.arithmetic.specs.Decimal32.{isDecimal32, isCall};
-ghost use Rattle.arithmetic.specs.Operations.{roundedSum, roundedProduct, roundedQuotient};
+ghost use Rattle.prepared_arithmetic.specs.Operations.{roundedSum, roundedProduct, roundedQuotient};
 
 // Is it decimal32? The four figures are compared at once.
 fn is_decimal32(format: Format) -> bool

@@ -2,41 +2,15 @@
 use crate::decimal32;
 use crate::decimal32::is_call;
 use crate::entry::enter_operation;
-use crate::operands::deliver_wide;
-use crate::operands::wide_of;
-use format::Direction;
 use format::Format;
 use format::Preparation;
-use format::Prepared;
 use format::directions::direction_of;
 use number::Answer;
 use number::Number;
-use number::signs::with_sign;
+use prepared_arithmetic::sum::add;
+use prepared_arithmetic::sum::subtract;
 ghost use mathlib.Core.Path.{_≡_};
-ghost use mathlib.Core.Bool.{true};
-ghost use Rattle.format.specs.Directions.{sense};
-ghost use Rattle.number.specs.Numbers.{member};
-ghost use Rattle.number.specs.Entry.{Usable};
-ghost use Rattle.arithmetic.specs.Operations.{roundedSum, roundedDifference, summed, subtracted};
-
-// a + b, in a format that was prepared. Refuses 5.
-pub fn add(prepared: Prepared, direction: Direction, a: Number, b: Number) -> Answer
-    requires { ⌜ Usable prepared × (member (prepared .format) a ≡ true) × (member (prepared .format) b ≡ true) ⌝ }
-    ensures { λ r. ⌜ r ≡ roundedSum (prepared .format) (sense direction) a b ⌝ }
-{
-    let scale = prepared.scale;
-    let x = wide_of(prepared, a);
-    let y = wide_of(prepared, b);
-    deliver_wide(prepared, wide_sum::sum(scale, direction, x, y))
-}
-
-// a - b, in a format that was prepared. Refuses 5.
-pub fn subtract(prepared: Prepared, direction: Direction, a: Number, b: Number) -> Answer
-    requires { ⌜ Usable prepared × (member (prepared .format) a ≡ true) × (member (prepared .format) b ≡ true) ⌝ }
-    ensures { λ r. ⌜ r ≡ roundedDifference (prepared .format) (sense direction) a b ⌝ }
-{
-    add(prepared, direction, a, with_sign(b, !b.negative))
-}
+ghost use Rattle.prepared_arithmetic.specs.Operations.{summed, subtracted};
 
 // a + b. Refuses 1, 2, 3, 5.
 pub fn sum(format: Format, direction: u32, a: Number, b: Number) -> Answer

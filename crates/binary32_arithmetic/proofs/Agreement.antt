@@ -13,7 +13,7 @@ use Rattle.theory.proofs.Tests.{and-made, unless-passed}
 use Rattle.format.specs.Directions.{isDirection, direction}
 use Rattle.format.specs.Published.{binary32}
 use Rattle.number.specs.Numbers.{magnitude}
-use Rattle.arithmetic.specs.Operations.{rounded, roundedZ, roundedProduct, roundedQuotient}
+use Rattle.prepared_arithmetic.specs.Operations.{rounded, roundedZ, roundedProduct, roundedQuotient}
 use Rattle.binary32.specs.Patterns.{finite, numberRead, answerWritten}
 use Rattle.binary32.proofs.RoundTrips.{read-made}
 use Rattle.binary32.proofs.StandardPatterns.{patterned, pattern-sum, pattern-difference, pattern-product, pattern-quotient}

@@ -23,8 +23,8 @@ use Rattle.number.specs.declared.Answer.{Answer}
 use Rattle.number.specs.declared.Answer.the-variants.{Value}
 use Rattle.number.specs.Numbers.{magnitude, value, greatest}
 use Rattle.number.proofs.Values.{greatest-wide}
-use Rattle.arithmetic.specs.Operations.{roundedZ}
-use Rattle.arithmetic.proofs.Outcome.{Outcome, given, too-large, roundedZ-outcome}
+use Rattle.prepared_arithmetic.specs.Operations.{roundedZ}
+use Rattle.prepared_arithmetic.proofs.Outcome.{Outcome, given, too-large, roundedZ-outcome}
 use Rattle.binary32.specs.Patterns.{fieldOf, finite, magnitudeRead, numberRead, answerWritten}
 use Rattle.binary32.proofs.Fields.{binary32-limits, endless-field}
 use Rattle.binary32.proofs.RoundTrips.{read-made, read-magnitude}

@@ -15,7 +15,7 @@ use Rattle.binary32.proofs.Fields.{binary32-admitted, binary32-limits}
 use Rattle.binary32_arithmetic.specs.declared.Operation.{Operation}
 use Rattle.binary32_arithmetic.specs.declared.Operation.the-variants.{Sum, Difference, Product, Quotient}
 use Rattle.binary32_arithmetic.specs.Calls.{roundedBy}
-use Rattle.arithmetic.proofs.Results.{sum-member, difference-member, product-member, quotient-member}
+use Rattle.prepared_arithmetic.proofs.Results.{sum-member, difference-member, product-member, quotient-member}
 
 module _ {q : Prepared} (e : q ≡ preparedOf binary32) where
   pub usable-binary32 : Usable q

@@ -32,7 +32,7 @@ ghost use Rattle.number.specs.Order.{compared};
 ghost use Rattle.number.specs.Signs.{negated, unsigned};
 ghost use Rattle.units.specs.Places.{firstPlace, lastPlace, leastPlace};
 ghost use Rattle.units.specs.Neighbours.{predecessorOf, successorOf};
-ghost use Rattle.arithmetic.specs.Operations.{summed, subtracted, multiplied, divided};
+ghost use Rattle.prepared_arithmetic.specs.Operations.{summed, subtracted, multiplied, divided};
 ghost use Rattle.c_answers.specs.Answers.{numberOut, orderOut, publishedOut, verdictOut};
 
 // 0 if the format is admitted, else 1.

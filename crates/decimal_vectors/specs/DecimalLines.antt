@@ -17,7 +17,7 @@ use Rattle.number.specs.Signs.{negated, unsigned}
 use Rattle.number.specs.Order.{compared}
 use Rattle.units.specs.Neighbours.{predecessorOf, successorOf}
 use Rattle.units.specs.Places.{firstPlace}
-use Rattle.arithmetic.specs.Operations.{summed, subtracted, multiplied, divided}
+use Rattle.prepared_arithmetic.specs.Operations.{summed, subtracted, multiplied, divided}
 use Rattle.decimal_vectors.specs.declared.Operand.{Operand}
 use Rattle.decimal_vectors.specs.declared.Operand.the-variants as operand
 use Rattle.decimal_vectors.specs.declared.Description.{Description}

@@ -16,7 +16,7 @@ use Rattle.number.specs.Numbers.{equalZ, normal, small, isZero, member, magnitu
 use Rattle.number.specs.Entry.{all, entry, after}
 use Rattle.units.specs.Places.{firstPlace, lastPlace, leastPlace}
 use Rattle.units.specs.Neighbours.{predecessorOf, successorOf}
-use Rattle.arithmetic.specs.Operations.{rounded, roundedZ, roundedQuotient, summed, divided}
+use Rattle.prepared_arithmetic.specs.Operations.{rounded, roundedZ, roundedQuotient, summed, divided}
 use Rattle.rump_premises.specs.Premises.{premise, firstPremise}
 use Rattle.rump.specs.Routes.{ufpRoute}
 use Rattle.fast_two_sum.specs.Calls.{isBinary, ordered, then, threeSteps, fastTwoSum}

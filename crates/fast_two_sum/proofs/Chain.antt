@@ -6,7 +6,7 @@ use Rattle.format.specs.declared.Refusal.{Refusal}
 use Rattle.number.specs.declared.Number.{Number}
 use Rattle.number.specs.declared.Answer.{Answer}
 use Rattle.number.specs.declared.Answer.the-variants.{Value, Refused}
-use Rattle.arithmetic.specs.Operations.{roundedSum, roundedDifference}
+use Rattle.prepared_arithmetic.specs.Operations.{roundedSum, roundedDifference}
 use Rattle.fast_two_sum.specs.declared.Steps.{Steps}
 use Rattle.fast_two_sum.specs.declared.StepsAnswer.{StepsAnswer}
 use Rattle.fast_two_sum.specs.declared.StepsAnswer.the-variants as steps

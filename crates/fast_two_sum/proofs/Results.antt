@@ -15,8 +15,8 @@ use Rattle.number.specs.declared.Answer.{Answer}
 use Rattle.number.specs.declared.Answer.the-variants.{Value, Refused}
 use Rattle.number.specs.Numbers.{member, value, greatest, number}
 use Rattle.number.proofs.Membership.{Member, members, member-made}
-use Rattle.arithmetic.proofs.Outcome.{Outcome, given, too-large, roundedZ-outcome}
-use Rattle.arithmetic.specs.Operations.{rounded, roundedZ}
+use Rattle.prepared_arithmetic.proofs.Outcome.{Outcome, given, too-large, roundedZ-outcome}
+use Rattle.prepared_arithmetic.specs.Operations.{rounded, roundedZ}
 
 -- the answer is a number y of the format that has the value v
 pub record Given (f : Format) (answer : Answer) (v : ℤ) (y : Number) : Type 0 where

@@ -14,7 +14,7 @@ use Rattle.number.specs.declared.Answer.{Answer}
 use Rattle.number.specs.declared.Answer.the-variants as answer
 use Rattle.number.specs.Numbers.{magnitude}
 use Rattle.number.specs.Entry.{entry, after}
-use Rattle.arithmetic.specs.Operations.{roundedSum, roundedDifference}
+use Rattle.prepared_arithmetic.specs.Operations.{roundedSum, roundedDifference}
 use Rattle.fast_two_sum.specs.declared.Steps.{Steps}
 use Rattle.fast_two_sum.specs.declared.StepsAnswer.{StepsAnswer}
 use Rattle.fast_two_sum.specs.declared.StepsAnswer.the-variants as steps

@@ -2,8 +2,6 @@
 use crate::Steps;
 use crate::StepsAnswer;
 use crate::entry::check_order;
-use arithmetic::sum::add;
-use arithmetic::sum::subtract;
 use format::Direction;
 use format::Format;
 use format::Preparation;
@@ -16,6 +14,8 @@ use number::Answer;
 use number::Number;
 use number::entry::with_direction;
 use number::entry::with_number;
+use prepared_arithmetic::sum::add;
+use prepared_arithmetic::sum::subtract;
 ghost use mathlib.Core.Path.{_≡_};
 ghost use mathlib.Core.Bool.{true};
 ghost use mathlib.Core.List.{[], _∷_};

@@ -25,7 +25,7 @@ use Rattle.number.specs.Entry.{all, entry, after}
 use Rattle.number.proofs.Membership.{Member, members, member-made}
 use Rattle.number.proofs.Values.{member-greatest}
 use Rattle.number.proofs.Entries.{after-passed, entry-made, pair-made}
-use Rattle.arithmetic.specs.Operations.{roundedZ}
+use Rattle.prepared_arithmetic.specs.Operations.{roundedZ}
 use Rattle.fast_two_sum.specs.declared.StepsAnswer.the-variants as steps
 use Rattle.fast_two_sum.specs.declared.Steps.{Steps}
 use Rattle.fast_two_sum.specs.declared.Checked.the-variants as checked

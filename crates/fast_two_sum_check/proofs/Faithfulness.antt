@@ -17,7 +17,7 @@ use Rattle.number.specs.declared.Answer.{Answer}
 use Rattle.number.specs.Numbers.{equalZ, member, value}
 use Rattle.number.proofs.Membership.{Member, member-made, equal-true, equal-made}
 use Rattle.number.proofs.Values.{member-greatest}
-use Rattle.arithmetic.specs.Operations.{roundedZ}
+use Rattle.prepared_arithmetic.specs.Operations.{roundedZ}
 use Rattle.fast_two_sum.specs.Triples.{Triple}
 use Rattle.fast_two_sum.proofs.Bounds.{value-size}
 use Rattle.fast_two_sum.proofs.Results.{rounded-cases}

@@ -1,5 +1,4 @@
 // The check: each of three numbers is faithful to its step exactly when it equals the step rounded down or rounded up.
-use arithmetic::sum::add;
 use fast_two_sum::Checked;
 use fast_two_sum::entry::check_order;
 use format::Direction;
@@ -14,6 +13,7 @@ use number::entry::enter_two;
 use number::entry::with_number;
 use number::order::compare_values;
 use number::signs::with_sign;
+use prepared_arithmetic::sum::add;
 ghost use mathlib.Core.Path.{_≡_};
 ghost use mathlib.Core.Bool.{true};
 ghost use mathlib.Core.List.{[], _∷_};

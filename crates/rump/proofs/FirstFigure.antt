@@ -23,7 +23,7 @@ use Rattle.number.specs.declared.Number.{Number}
 use Rattle.number.specs.declared.Answer.{Answer}
 use Rattle.number.specs.Exponents.{belowZero}
 use Rattle.number.specs.Numbers.{greatest}
-use Rattle.arithmetic.specs.Operations.{roundedSum, roundedDifference, roundedProduct}
+use Rattle.prepared_arithmetic.specs.Operations.{roundedSum, roundedDifference, roundedProduct}
 use Rattle.rump_premises.specs.Values.{one, Has}
 use Rattle.rump_premises.proofs.Reach.{First, one-positive, power-most, constant-most}
 use Rattle.rump.specs.Steps.{Gives}

@@ -18,7 +18,7 @@ use Rattle.number.specs.declared.Answer.{Answer}
 use Rattle.number.specs.Exponents.{belowZero}
 use Rattle.number.specs.Numbers.{greatest}
 use Rattle.number.proofs.Values.{greatest-wide}
-use Rattle.arithmetic.specs.Operations.{roundedSum, roundedDifference, roundedProduct}
+use Rattle.prepared_arithmetic.specs.Operations.{roundedSum, roundedDifference, roundedProduct}
 use Rattle.rump_premises.specs.Values.{one, Has}
 use Rattle.rump_premises.proofs.Reach.{Last, first-power, one-positive, constant-most}
 use Rattle.rump.specs.Steps.{Gives}

@@ -18,7 +18,7 @@ use Rattle.number.specs.declared.Number.{Number}
 use Rattle.number.specs.declared.Answer.the-variants.{Value, Refused}
 use Rattle.number.specs.Numbers.{equalZ, normal, small, isZero, member, magnitude, value, greatest, number, delivered}
 use Rattle.number.specs.Entry.{all, entry, after}
-use Rattle.arithmetic.specs.Operations.{rounded, roundedZ, roundedProduct, summed, subtracted, multiplied}
+use Rattle.prepared_arithmetic.specs.Operations.{rounded, roundedZ, roundedProduct, summed, subtracted, multiplied}
 use Rattle.rump_premises.specs.Premises.{premise, firstPremise}
 use Rattle.rump.specs.Routes.{ufpRoute}
 

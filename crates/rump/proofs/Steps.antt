@@ -26,8 +26,8 @@ use Rattle.number.proofs.Membership.{members, member-made}
 use Rattle.number.proofs.Values.{number-same, number-of, own-sign}
 use Rattle.number.proofs.Negation.{signed-member, unsigned-value}
 use Rattle.wide.proofs.Signs.{signed-times}
-use Rattle.arithmetic.specs.Operations.{roundedSum, roundedDifference, roundedProduct}
-use Rattle.arithmetic.proofs.Outcome.{Outcome, given, too-large, rounded-outcome, roundedZ-outcome}
+use Rattle.prepared_arithmetic.specs.Operations.{roundedSum, roundedDifference, roundedProduct}
+use Rattle.prepared_arithmetic.proofs.Outcome.{Outcome, given, too-large, rounded-outcome, roundedZ-outcome}
 use Rattle.rump_premises.specs.Values.{one, Has}
 use Rattle.rump.specs.Steps.{Gives}
 

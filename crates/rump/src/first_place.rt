@@ -1,7 +1,4 @@
 // Rump's route to the first place (figure 1), rounded toward zero.
-use arithmetic::product::multiply;
-use arithmetic::sum::add;
-use arithmetic::sum::subtract;
 use format::Direction;
 use format::Format;
 use format::Preparation;
@@ -11,6 +8,9 @@ use number::Answer;
 use number::Number;
 use number::entry::enter;
 use number::signs::with_sign;
+use prepared_arithmetic::product::multiply;
+use prepared_arithmetic::sum::add;
+use prepared_arithmetic::sum::subtract;
 use rump_premises::constants::power;
 use rump_premises::constants::subrealmin;
 use rump_premises::premises::first_premise;

@@ -1,7 +1,4 @@
 // Rump's routes to the last place: up (figure 3), toward zero (figure 4), and toward zero without a test (figure 5).
-use arithmetic::product::multiply;
-use arithmetic::sum::add;
-use arithmetic::sum::subtract;
 use format::Direction;
 use format::Format;
 use format::Preparation;
@@ -13,6 +10,9 @@ use number::Ordered;
 use number::entry::enter;
 use number::order::compare_values;
 use number::signs::with_sign;
+use prepared_arithmetic::product::multiply;
+use prepared_arithmetic::sum::add;
+use prepared_arithmetic::sum::subtract;
 use rump_premises::constants::power;
 use rump_premises::constants::subrealmin;
 use rump_premises::premises::last_premise;

@@ -5,8 +5,8 @@ use mathlib.Core.Path.{sym, _∙_}
 use native.Mathlib.Omega.{arith}
 use Rattle.format.specs.Directions.{sense}
 use Rattle.format.specs.Published.{decimal32}
-use Rattle.arithmetic.specs.Operations.{roundedQuotient}
-use Rattle.arithmetic.proofs.Prepared.{Delivers, divisor-none}
+use Rattle.prepared_arithmetic.specs.Operations.{roundedQuotient}
+use Rattle.prepared_arithmetic.proofs.Prepared.{Delivers, divisor-none}
 use Rattle.arithmetic.proofs.DecimalFormat.{prepared-usable, prepared-member, operands, decimal32-quotient}
 use Rattle.arithmetic.proofs.decimal32.divide.Statement.{statement}
 use Rattle.arithmetic.proofs.decimal32.divide.Tie as tie

@@ -3,8 +3,8 @@ use borrow.Author.Needs.{needs}
 use mathlib.Core.Path.{_∙_}
 use Rattle.format.specs.Directions.{sense}
 use Rattle.format.specs.Published.{decimal32}
-use Rattle.arithmetic.specs.Operations.{roundedProduct}
-use Rattle.arithmetic.proofs.Prepared.{Delivers}
+use Rattle.prepared_arithmetic.specs.Operations.{roundedProduct}
+use Rattle.prepared_arithmetic.proofs.Prepared.{Delivers}
 use Rattle.arithmetic.proofs.DecimalFormat.{prepared-usable, prepared-member, operands, decimal32-product}
 use Rattle.arithmetic.proofs.decimal32.multiply.Statement.{statement}
 use Rattle.arithmetic.proofs.decimal32.multiply.Tie as tie

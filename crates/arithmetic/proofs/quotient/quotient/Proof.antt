@@ -9,7 +9,7 @@ use Rattle.format.specs.declared.Preparation.the-variants.{Ready}
 use Rattle.number.specs.Entry.{entered}
 use Rattle.number.proofs.Entries.{ends}
 use Rattle.arithmetic.specs.Decimal32.{isCall}
-use Rattle.arithmetic.specs.Operations.{roundedQuotient, divided}
+use Rattle.prepared_arithmetic.specs.Operations.{roundedQuotient, divided}
 use Rattle.arithmetic.proofs.DecimalFormat.{call-directed, call-members, call-answered}
 use Rattle.arithmetic.proofs.Entered.{operation, answered}
 use Rattle.arithmetic.proofs.quotient.quotient.Statement.{statement}

@@ -7,7 +7,7 @@ use Rattle.format.specs.declared.Format.{Format}
 use Rattle.format.specs.declared.Preparation.the-variants.{Ready}
 use Rattle.number.specs.Entry.{entered}
 use Rattle.number.proofs.Entries.{ends}
-use Rattle.arithmetic.specs.Operations.{roundedDifference, subtracted}
+use Rattle.prepared_arithmetic.specs.Operations.{roundedDifference, subtracted}
 use Rattle.arithmetic.proofs.Entered.{operation, answered}
 use Rattle.arithmetic.proofs.sum.difference.Statement.{statement}
 use Rattle.arithmetic.proofs.sum.difference.Tie as tie

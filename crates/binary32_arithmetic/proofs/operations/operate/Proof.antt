@@ -6,7 +6,7 @@ use Rattle.format.specs.declared.Format.{Format}
 use Rattle.format.specs.Directions.{sense}
 use Rattle.number.specs.Numbers.{member}
 use Rattle.number.specs.Entry.{Usable}
-use Rattle.arithmetic.specs.Operations.{roundedSum, roundedDifference, roundedProduct, roundedQuotient}
+use Rattle.prepared_arithmetic.specs.Operations.{roundedSum, roundedDifference, roundedProduct, roundedQuotient}
 use Rattle.binary32_arithmetic.specs.declared.Operation.{Operation}
 use Rattle.binary32_arithmetic.specs.Calls.{roundedBy}
 use Rattle.binary32_arithmetic.proofs.Results.{usable-binary32, same-format, member-prepared}

@@ -7,7 +7,7 @@ use Rattle.format.specs.Directions.{sense}
 use Rattle.number.specs.declared.Answer.the-variants.{Value}
 use Rattle.number.specs.Numbers.{member}
 use Rattle.number.proofs.Membership.{known}
-use Rattle.arithmetic.specs.Operations.{roundedSum, roundedDifference}
+use Rattle.prepared_arithmetic.specs.Operations.{roundedSum, roundedDifference}
 use Rattle.fast_two_sum.specs.declared.StepsAnswer.the-variants.{Refused}
 use Rattle.fast_two_sum.proofs.Results.{rounded-member}
 use Rattle.fast_two_sum.proofs.Chain.{first-refused, second-refused, third-refused, three-given}

@@ -4,7 +4,7 @@ use mathlib.Core.Path.{ap, _∙_}
 use lib.IntN.{ℤ, _+ℤ_}
 use Rattle.number.specs.Numbers.{value}
 use Rattle.number.proofs.Membership.{known}
-use Rattle.arithmetic.proofs.Prepared.{turned-member, turned-value}
+use Rattle.prepared_arithmetic.proofs.Prepared.{turned-member, turned-value}
 use Rattle.fast_two_sum_check.specs.Calls.{isFaithful}
 use Rattle.fast_two_sum_check.proofs.check.is_faithful_difference.Statement.{statement}
 use Rattle.fast_two_sum_check.proofs.check.is_faithful_difference.Tie as tie

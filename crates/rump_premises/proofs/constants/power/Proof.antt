@@ -16,7 +16,7 @@ use Rattle.number.specs.Exponents.{belowZero}
 use Rattle.number.specs.Numbers.{number}
 use Rattle.number.proofs.Membership.{known}
 use Rattle.number.proofs.Values.{emin-admitted}
-use Rattle.arithmetic.proofs.Prepared.{below-most}
+use Rattle.prepared_arithmetic.proofs.Prepared.{below-most}
 use Rattle.rump_premises.proofs.Reach.{reach, constant-most}
 use Rattle.rump_premises.proofs.Values.{number-has}
 use Rattle.rump_premises.proofs.constants.power.Statement.{statement}

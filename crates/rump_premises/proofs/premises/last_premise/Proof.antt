@@ -18,7 +18,7 @@ use Rattle.number.specs.Entry.{Usable}
 use Rattle.number.specs.Numbers.{placeOf, magnitude, greatest, number}
 use Rattle.number.proofs.Membership.{members, known}
 use Rattle.number.proofs.Values.{member-greatest, greatest-wide}
-use Rattle.arithmetic.proofs.Prepared.{no-magnitude}
+use Rattle.prepared_arithmetic.proofs.Prepared.{no-magnitude}
 use Rattle.rump_premises.specs.Premises.{premise}
 use Rattle.rump_premises.specs.Values.{Has}
 use Rattle.rump_premises.proofs.Reach.{last, last-format, last-by}

@@ -11,7 +11,7 @@ ghost use Rattle.theory.specs.Wide.{Canonical};
 ghost use Rattle.number.specs.Numbers.{member, delivered};
 ghost use Rattle.number.specs.Entry.{Usable};
 ghost use Rattle.wide.specs.Operand.{sizeOf};
-ghost use Rattle.arithmetic.specs.Operands.{wideOf};
+ghost use Rattle.prepared_arithmetic.specs.Operands.{wideOf};
 
 // x, with the place that its exponent has above emin.
 pub fn wide_of(prepared: Prepared, x: Number) -> Wide

@@ -38,8 +38,8 @@ use Rattle.wide.specs.Sum.{summed}
 use Rattle.wide.specs.Product.{multiplied}
 use Rattle.wide.specs.Quotient.{divided}
 use Rattle.wide.proofs.Results.{Result, summed-result, multiplied-result, divided-result}
-use Rattle.arithmetic.specs.Operands.{wideOf}
-use Rattle.arithmetic.specs.Operations.{rounded, roundedZ, roundedSum, roundedProduct, roundedQuotient}
+use Rattle.prepared_arithmetic.specs.Operands.{wideOf}
+use Rattle.prepared_arithmetic.specs.Operations.{rounded, roundedZ, roundedSum, roundedProduct, roundedQuotient}
 
 -- ---- the parts of Emin
 pub parts-above : (z : ℤ) → aboveZero z ≡ above z

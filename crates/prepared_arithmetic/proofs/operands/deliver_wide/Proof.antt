@@ -1,7 +1,7 @@
--- `arithmetic::operands::deliver_wide` meets its contract.
+-- `prepared_arithmetic::operands::deliver_wide` meets its contract.
 use borrow.Author.Needs.{needs}
-use Rattle.arithmetic.proofs.operands.deliver_wide.Statement.{statement}
-use Rattle.arithmetic.proofs.operands.deliver_wide.Tie as tie
+use Rattle.prepared_arithmetic.proofs.operands.deliver_wide.Statement.{statement}
+use Rattle.prepared_arithmetic.proofs.operands.deliver_wide.Tie as tie
 
 deliver-requires : tie.Need-deliver-requires
 deliver-requires c κs = search needs

@@ -1,4 +1,4 @@
--- `arithmetic::product::multiply` meets its contract: the product in the wide format, delivered.
+-- `prepared_arithmetic::product::multiply` meets its contract: the product in the wide format, delivered.
 use borrow.Author.Needs.{needs}
 use Prim.Native.Nat.{_^_, _<_}
 use mathlib.Core.Path.{_≡_, _∙_}
@@ -9,10 +9,10 @@ use Rattle.format.proofs.Signed.{back}
 use Rattle.number.specs.Exponents.{aboveZero, belowZero}
 use Rattle.number.proofs.Membership.{known}
 use Rattle.number.proofs.Values.{emin-admitted}
-use Rattle.arithmetic.specs.Operations.{roundedProduct}
-use Rattle.arithmetic.proofs.Prepared.{Delivers, above-most, below-most, scale-scaled, operand, product-delivers}
-use Rattle.arithmetic.proofs.product.multiply.Statement.{statement}
-use Rattle.arithmetic.proofs.product.multiply.Tie as tie
+use Rattle.prepared_arithmetic.specs.Operations.{roundedProduct}
+use Rattle.prepared_arithmetic.proofs.Prepared.{Delivers, above-most, below-most, scale-scaled, operand, product-delivers}
+use Rattle.prepared_arithmetic.proofs.product.multiply.Statement.{statement}
+use Rattle.prepared_arithmetic.proofs.product.multiply.Tie as tie
 
 emin-fits : (c : tie.Start) → SFits w32 (c .args .prepared .format .emin)
 emin-fits c = search needs

@@ -12,9 +12,9 @@ use Rattle.number.specs.declared.Number.{Number}
 use Rattle.number.specs.declared.Answer.the-variants.{Value, Refused}
 use Rattle.number.specs.Exponents.{belowZero}
 use Rattle.number.specs.Numbers.{member}
-use Rattle.arithmetic.specs.Operations.{roundedSum, roundedDifference, roundedProduct, roundedQuotient}
-use Rattle.arithmetic.proofs.Prepared.{divisor-positive, divisor-some, divisor-none}
-use Rattle.arithmetic.proofs.Outcome.{outcome-given, rounded-outcome, roundedZ-outcome}
+use Rattle.prepared_arithmetic.specs.Operations.{roundedSum, roundedDifference, roundedProduct, roundedQuotient}
+use Rattle.prepared_arithmetic.proofs.Prepared.{divisor-positive, divisor-some, divisor-none}
+use Rattle.prepared_arithmetic.proofs.Outcome.{outcome-given, rounded-outcome, roundedZ-outcome}
 
 module _ {f : Format} (ok : Admitted f) (d : Direction) (a b : Number) {x : Number} where
   pub sum-member : roundedSum f d a b ≡ Value x → member f x ≡ true

@@ -1,11 +1,11 @@
--- `arithmetic::sum::add` meets its contract: the sum in the wide format, delivered.
+-- `prepared_arithmetic::sum::add` meets its contract: the sum in the wide format, delivered.
 use borrow.Author.Needs.{needs}
 use mathlib.Core.Path.{_∙_}
 use Rattle.format.specs.Directions.{sense}
-use Rattle.arithmetic.specs.Operations.{roundedSum}
-use Rattle.arithmetic.proofs.Prepared.{Delivers, scale-scaled, operand, sum-delivers}
-use Rattle.arithmetic.proofs.sum.add.Statement.{statement}
-use Rattle.arithmetic.proofs.sum.add.Tie as tie
+use Rattle.prepared_arithmetic.specs.Operations.{roundedSum}
+use Rattle.prepared_arithmetic.proofs.Prepared.{Delivers, scale-scaled, operand, sum-delivers}
+use Rattle.prepared_arithmetic.proofs.sum.add.Statement.{statement}
+use Rattle.prepared_arithmetic.proofs.sum.add.Tie as tie
 
 wide-of-requires : tie.Need-wide-of-requires
 wide-of-requires c κs = search needs

@@ -1,4 +1,4 @@
--- `arithmetic::quotient::divide` meets its contract: the quotient in the wide format, delivered.
+-- `prepared_arithmetic::quotient::divide` meets its contract: the quotient in the wide format, delivered.
 use borrow.Author.Needs.{needs}
 use Prim.Native.Nat.{_^_, _≤_, _<_}
 use mathlib.Core.Path.{_≡_, sym, _∙_}
@@ -10,10 +10,10 @@ use Rattle.format.proofs.Signed.{back}
 use Rattle.number.specs.Exponents.{aboveZero, belowZero}
 use Rattle.number.proofs.Membership.{known}
 use Rattle.number.proofs.Values.{emin-admitted}
-use Rattle.arithmetic.specs.Operations.{roundedQuotient}
-use Rattle.arithmetic.proofs.Prepared.{Delivers, above-most, below-most, divisor-none, scale-scaled, operand, quotient-delivers}
-use Rattle.arithmetic.proofs.quotient.divide.Statement.{statement}
-use Rattle.arithmetic.proofs.quotient.divide.Tie as tie
+use Rattle.prepared_arithmetic.specs.Operations.{roundedQuotient}
+use Rattle.prepared_arithmetic.proofs.Prepared.{Delivers, above-most, below-most, divisor-none, scale-scaled, operand, quotient-delivers}
+use Rattle.prepared_arithmetic.proofs.quotient.divide.Statement.{statement}
+use Rattle.prepared_arithmetic.proofs.quotient.divide.Tie as tie
 
 emin-fits : (c : tie.Start) → SFits w32 (c .args .prepared .format .emin)
 emin-fits c = search needs

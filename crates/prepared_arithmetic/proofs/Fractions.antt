@@ -12,7 +12,7 @@ use Rattle.number.specs.declared.Number.{Number}
 use Rattle.number.specs.Exponents.{aboveZero, belowZero}
 use Rattle.number.specs.Numbers.{placeOf, magnitude}
 use Rattle.number.proofs.Membership.{Member}
-use Rattle.arithmetic.proofs.Prepared.{parts-above, parts-below}
+use Rattle.prepared_arithmetic.proofs.Prepared.{parts-above, parts-below}
 
 pow-three : (β i j k : ℕ) → β ^ i * β ^ j * β ^ k ≡ β ^ (i + j + k)
 pow-three β i j k = sym (pow-add β (i + j) k ∙ rw (pow-add β i j))

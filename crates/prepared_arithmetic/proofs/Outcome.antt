@@ -25,7 +25,7 @@ use Rattle.number.specs.declared.Answer.the-variants.{Value, Refused}
 use Rattle.number.specs.Numbers.{member, magnitude, value, greatest, number, delivered}
 use Rattle.number.proofs.Membership.{Member, member-made}
 use Rattle.number.proofs.Values.{member-wide, member-greatest, number-same, number-of, own-sign as own-record, number-member, number-value}
-use Rattle.arithmetic.specs.Operations.{rounded, roundedZ}
+use Rattle.prepared_arithmetic.specs.Operations.{rounded, roundedZ}
 
 -- x is N / D units, rounded in the direction d
 pub record Given (f : Format) (d : Direction) (N : ℤ) (D : ℕ) (x : Number) : Type 0 where

@@ -1,14 +1,14 @@
--- `arithmetic::sum::subtract` meets its contract: the sum with the second number negated.
+-- `prepared_arithmetic::sum::subtract` meets its contract: the sum with the second number negated.
 use borrow.Author.Needs.{needs}
 use mathlib.Core.Path.{ap, _∙_}
 use lib.IntN.{ℤ, _+ℤ_}
 use Rattle.format.specs.Directions.{sense}
 use Rattle.number.specs.Numbers.{value}
 use Rattle.number.proofs.Membership.{known}
-use Rattle.arithmetic.specs.Operations.{roundedZ}
-use Rattle.arithmetic.proofs.Prepared.{turned-member, turned-value}
-use Rattle.arithmetic.proofs.sum.subtract.Statement.{statement}
-use Rattle.arithmetic.proofs.sum.subtract.Tie as tie
+use Rattle.prepared_arithmetic.specs.Operations.{roundedZ}
+use Rattle.prepared_arithmetic.proofs.Prepared.{turned-member, turned-value}
+use Rattle.prepared_arithmetic.proofs.sum.subtract.Statement.{statement}
+use Rattle.prepared_arithmetic.proofs.sum.subtract.Tie as tie
 
 with-sign-requires : tie.Need-with-sign-requires
 with-sign-requires c κs = search needs

@@ -1,4 +1,4 @@
--- `arithmetic::operands::wide_of` meets its contract.
+-- `prepared_arithmetic::operands::wide_of` meets its contract.
 use borrow.Author.Needs.{needs}
 use mathlib.Core.Path.{ap, _∙_}
 use native.Mathlib.Omega.{arith}
@@ -8,8 +8,8 @@ use mir.Val.{SFits}
 use Rattle.format.proofs.Signed.{back}
 use Rattle.format.proofs.Formats.{exponents-made}
 use Rattle.number.proofs.Membership.{members, known}
-use Rattle.arithmetic.proofs.operands.wide_of.Statement.{statement}
-use Rattle.arithmetic.proofs.operands.wide_of.Tie as tie
+use Rattle.prepared_arithmetic.proofs.operands.wide_of.Statement.{statement}
+use Rattle.prepared_arithmetic.proofs.operands.wide_of.Tie as tie
 
 emin-fits : (c : tie.Start) → SFits w32 (c .args .prepared .format .emin)
 emin-fits c = search needs

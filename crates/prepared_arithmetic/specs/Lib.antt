@@ -1,0 +1,3 @@
+-- What the four operations answer.
+pub mod Operands
+pub mod Operations
