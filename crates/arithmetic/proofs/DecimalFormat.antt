@@ -1,6 +1,6 @@
 -- decimal32: the tests that pick out its calls, and what its wide operations deliver.
 use mathlib.Core.Path.{_≡_, refl, sym, ap, subst, _∙_}
-use mathlib.Core.Bool.{Bool, true}
+use mathlib.Core.Bool.{true}
 use mathlib.Core.List.{[], _∷_}
 use lib.IntN.{ℤ, pos, negsuc}
 use Prim.Native.Nat.{ℕ, _≤_}

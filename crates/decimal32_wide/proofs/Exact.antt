@@ -3,7 +3,7 @@ use Prim.Native.Nat.{ℕ, _^_, _+_, _*_, _-_, _≤_, _<_}
 use mathlib.Core.Path.{_≡_, refl, sym, ap, _∙_}
 use mathlib.Core.Bool.{Bool}
 use mathlib.Core.Logic.{inl, inr}
-use native.Mathlib.Nat.{add-zero, mul-one, mul-assoc, pow-zero}
+use native.Mathlib.Nat.{add-zero, mul-one, mul-assoc}
 use native.Mathlib.Omega.{arith}
 use lib.IntN.{ℤ, _+ℤ_}
 use Rattle.theory.specs.Wide.{Canonical}

@@ -1,8 +1,8 @@
 -- A significand that grows by digits, and a power of ten out of three.
 use Prim.Native.Nat.{ℕ, zero, suc, _^_, _+_, _*_, _/_, _%_, _≤_, _<_}
-use mathlib.Core.Path.{_≡_, refl, ap, _∙_}
+use mathlib.Core.Path.{_≡_, refl}
 use mathlib.Core.Bool.{Bool, true, false, cond}
-use native.Mathlib.Nat.{lt-of-not-le, mul-le-mul, mul-one, mul-assoc}
+use native.Mathlib.Nat.{lt-of-not-le, mul-le-mul, mul-assoc}
 use native.Mathlib.Omega.{arith}
 use lib.Dec.{eqb}
 use Rattle.theory.proofs.Powers.{pow-add, pow-mono}

@@ -1,6 +1,6 @@
 -- `arithmetic::decimal32::is_call` meets its contract: the tests in turn.
 use borrow.Author.Needs.{needs}
-use mathlib.Core.Path.{_≡_, refl, sym, _∙_}
+use mathlib.Core.Path.{_≡_}
 use mathlib.Core.Bool.{Bool, true, false}
 use Rattle.theory.specs.Tests.{_and_}
 use Rattle.theory.proofs.Tests.{denied, granted}

@@ -1,7 +1,6 @@
 -- `arithmetic::decimal32::is_decimal32` meets its contract: the four tests are passed by decimal32 and by no other format.
 use borrow.Author.Needs.{needs}
 use borrow.Author.Tests.{eqb-true}
-use Prim.Native.Nat.{ℕ}
 use mathlib.Core.Path.{_≡_, refl, sym, ap, _∙_}
 use mathlib.Core.Bool.{Bool, true, false, _&&_}
 use lib.Dec.{eqb}

@@ -1,6 +1,5 @@
 -- `decimal32_wide::digits::normalise` meets its contract: after each test the significand has grown far enough for the next.
 use borrow.Author.Needs.{needs}
-use Prim.Native.Nat.{ℕ}
 use mathlib.Core.Logic.{⊎-elim}
 use native.Mathlib.Omega.{arith}
 use Rattle.decimal32_wide.proofs.Growth.{Grown, grown-at, grown-none, grown-less, grown-by, grown-few, grown-shifted}

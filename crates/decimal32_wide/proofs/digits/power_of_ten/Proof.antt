@@ -1,7 +1,7 @@
 -- `decimal32_wide::digits::power_of_ten` meets its contract: by the eight powers.
 use borrow.Author.Needs.{needs}
-use Prim.Native.Nat.{ℕ, _*_, _/_, _%_, _≤_}
-use mathlib.Core.Path.{_≡_, ap₂, _∙_}
+use Prim.Native.Nat.{_*_, _/_, _%_, _≤_}
+use mathlib.Core.Path.{ap₂, _∙_}
 use native.Mathlib.Nat.{mul-le-mul}
 use native.Mathlib.Omega.{arith}
 use lib.Dec.{eqb}

@@ -1,7 +1,7 @@
 -- `decimal32_wide::product::product` meets its contract: by the digits of the significands' product.
 use borrow.Author.Needs.{needs}
 use Prim.Native.Nat.{ℕ, _+_, _*_, _-_, _≤_, _<_}
-use mathlib.Core.Path.{sym, ap, _∙_}
+use mathlib.Core.Path.{sym, _∙_}
 use native.Mathlib.Omega.{arith}
 use Rattle.rounding.specs.Digits.{Digits}
 use Rattle.wide.proofs.Products.{product-small}

@@ -1,6 +1,6 @@
 -- `decimal32_wide::quotient::cut_short` meets its contract: some digits before the point, or none.
 use borrow.Author.Needs.{needs}
-use Prim.Native.Nat.{ℕ, _^_, _*_, _-_, _≤_, _<_}
+use Prim.Native.Nat.{ℕ, _^_, _*_, _-_, _≤_}
 use mathlib.Core.Path.{_≡_, sym, ap, _∙_}
 use native.Mathlib.Nat.{mul-le-mul-left}
 use native.Mathlib.Omega.{arith}

@@ -3,7 +3,7 @@ use borrow.Author.Needs.{needs}
 use Prim.Native.Nat.{ℕ, _^_, _+_, _*_, _≤_, _<_}
 use mathlib.Core.Path.{_≡_, sym, ap, _∙_}
 use mathlib.Core.Bool.{xor}
-use native.Mathlib.Nat.{mul-pos, add-zero}
+use native.Mathlib.Nat.{mul-pos}
 use native.Mathlib.Omega.{arith}
 use Rattle.theory.proofs.Powers.{pow-pos}
 use Rattle.rounding.specs.Cut.{cutOf}

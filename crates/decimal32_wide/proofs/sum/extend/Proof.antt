@@ -1,6 +1,6 @@
 -- `decimal32_wide::sum::extend` meets its contract: zero, or the significand with all its digits.
 use borrow.Author.Needs.{needs}
-use Prim.Native.Nat.{ℕ, _*_, _^_, _≤_}
+use Prim.Native.Nat.{ℕ, _*_, _^_}
 use mathlib.Core.Path.{sym, ap, _∙_}
 use native.Mathlib.Omega.{arith}
 use Rattle.rounding.specs.Cut.{cutOf}

@@ -1,7 +1,7 @@
 -- `decimal32_wide::sum::level_sum` meets its contract: the sum in units of the one place.
 use borrow.Author.Needs.{needs}
 use Prim.Native.Nat.{ℕ, _+_, _*_, _^_, _<_}
-use mathlib.Core.Path.{_≡_, sym, ap, _∙_}
+use mathlib.Core.Path.{sym, ap, _∙_}
 use native.Mathlib.Omega.{arith}
 use Rattle.rounding.specs.Cut.{cutOf}
 use Rattle.decimal32_wide.proofs.Scales.{scaled}
