@@ -3,4 +3,5 @@ pub mod Reading
 pub mod Results
 pub mod Halves
 pub mod Passes
+pub mod SliceLaws
 pub mod Agreement
