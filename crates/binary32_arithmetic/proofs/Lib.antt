@@ -3,5 +3,6 @@ pub mod Reading
 pub mod Results
 pub mod Halves
 pub mod Passes
+pub mod CallLaws
 pub mod SliceLaws
 pub mod Agreement
