@@ -1,6 +1,6 @@
 -- Figure 1, line by line: under its premise no line passes the greatest number, so each gives the theory's value.
 use Prim.Native.Nat.{ℕ, zero, suc, _+_, _*_, _-_, _^_, _≤_, _<_}
-use mathlib.Core.Path.{_≡_, sym, ap, _∙_}
+use mathlib.Core.Path.{_≡_, refl, sym, ap, _∙_}
 use native.Mathlib.Nat.{le-trans, mul-le-mul-left, mul-le-mul-right}
 use native.Mathlib.Decide.{decLe}
 use native.Mathlib.Omega.{arith}
@@ -20,14 +20,25 @@ use Rattle.format.specs.declared.Format.{Format}
 use Rattle.format.specs.Formats.{highestPlace}
 use Rattle.format.proofs.Formats.{positional}
 use Rattle.number.specs.declared.Number.{Number}
-use Rattle.number.specs.declared.Answer.{Answer}
 use Rattle.number.specs.Exponents.{belowZero}
 use Rattle.number.specs.Numbers.{greatest}
-use Rattle.prepared_arithmetic.specs.Operations.{roundedSum, roundedDifference, roundedProduct}
 use Rattle.rump_premises.specs.Values.{one, Has}
 use Rattle.rump_premises.proofs.Reach.{First, one-positive, power-most, constant-most}
-use Rattle.rump.specs.Steps.{Gives}
-use Rattle.rump.proofs.Steps.{renamed, sum-gives, difference-gives, product-gives}
+use Rattle.rump.specs.Steps.{sumOf, differenceOf, productOf}
+use Rattle.rump.proofs.Steps.{Gives, gives}
+
+-- the values of its lines, in units
+abbrev pub p1 : Format → ℤ
+p1 f = below-one (f .base) (f .digits) (one f)
+
+abbrev pub phi : Format → ℕ
+phi f = (f .base ^ (f .digits - 1) + 1) * one f
+
+abbrev pub q : Format → ℕ → ℤ
+q f n = scaled-up (f .base) (f .digits) (one f) n
+
+abbrev pub shrunk : Format → ℕ → ℤ
+shrunk f n = product (f .base) (f .digits) toward-zero (one f) (p1 f) (q f n)
 
 module _ {f : Format} {n : ℕ} (k : First f n) where
   ok : Positional (f .base) (f .digits)
@@ -41,34 +52,31 @@ module _ {f : Format} {n : ℕ} (k : First f n) where
   one-is = ap (λ (j : ℕ). f .base ^ j) (omega (arith, k .reach .low))
 
   -- ---- line 2, p1 = 1 - subrealmin
-  below-one-most : natAbs (below-one (f .base) (f .digits) (one f)) ≤ greatest f
-  below-one-most =
+  p1-most : natAbs (p1 f) ≤ greatest f
+  p1-most =
       let digits : f .base ^ f .digits - 1 ≤ f .base ^ f .digits = omega arith in
       let within = power-most (k .admits) (f .digits + spare) (omega (arith, k .reach .low, k .reach .span)) in
       rw (one-is, below-one-is ok spare) (omega (arith, mul-le-mul-right (f .base ^ spare) digits, pow-add (f .base) (f .digits) spare, within))
 
-  pub below-one-gives : {a b : Number} {r : Answer} → Has f a (pos (one f)) → Has f b (pos 1) → r ≡ roundedDifference f toward-zero a b → Gives f r (below-one (f .base) (f .digits) (one f))
+  pub p1-gives : {a b : Number} → Has f a (pos (one f)) → Has f b (pos 1) → Gives f a b (differenceOf f toward-zero a b) (p1 f)
   unfolding below-one
-  below-one-gives x y e = difference-gives (k .admits) toward-zero x y below-one-most e
+  p1-gives x y = gives (k .reach .not-above) x y (difference (f .base) (f .digits) toward-zero) refl p1-most
 
   -- ---- line 3, φ = β ^ (p - 1) + 1
-  abbrev phi : ℕ
-  phi = (f .base ^ (f .digits - 1) + 1) * one f
-
-  phi-most : phi ≤ greatest f
+  phi-most : phi f ≤ greatest f
   phi-most =
       let j : ℕ = f .digits - 1 in
       let top : f .base ^ j + 1 ≤ f .base ^ f .digits =
       omega (arith, pow-pred (f .base) (k .admits .digits-low), mul-le-mul-right (f .base ^ j) (k .admits .base-low), pow-pos (k .admits .base-low) j) in
       le-trans (mul-le-mul-right (one f) top) (constant-most (k .admits) (k .reach) (f .digits) (omega arith))
 
-  phi-is : sum (f .base) (f .digits) toward-zero (pos (f .base ^ (f .digits - 1) * one f)) (pos (one f)) ≡ pos phi
+  phi-is : sum (f .base) (f .digits) toward-zero (pos (f .base ^ (f .digits - 1) * one f)) (pos (one f)) ≡ pos (phi f)
   phi-is =
       sum-toward-zero ok (f .base ^ (f .digits - 1) * one f) (one f)
-      ∙ ap pos (ap (lower (f .base) (f .digits)) (omega arith) ∙ lower-exact ok phi (wide-phi ok (belowZero (f .emin))))
+      ∙ ap pos (ap (lower (f .base) (f .digits)) (omega arith) ∙ lower-exact ok (phi f) (wide-phi ok (belowZero (f .emin))))
 
-  pub phi-gives : {a b : Number} {r : Answer} → Has f a (pos (f .base ^ (f .digits - 1) * one f)) → Has f b (pos (one f)) → r ≡ roundedSum f toward-zero a b → Gives f r (pos phi)
-  phi-gives x y e = renamed (sum-gives (k .admits) toward-zero x y (rw phi-is phi-most) e) phi-is
+  pub phi-gives : {a b : Number} → Has f a (pos (f .base ^ (f .digits - 1) * one f)) → Has f b (pos (one f)) → Gives f a b (sumOf f toward-zero a b) (pos (phi f))
+  phi-gives x y = gives (k .reach .not-above) x y (sum (f .base) (f .digits) toward-zero) phi-is phi-most
 
   -- ---- line 4, q = φ f
   ufp-most : ufp (f .base) n ≤ f .base ^ (highestPlace f - f .digits)
@@ -95,27 +103,22 @@ module _ {f : Format} {n : ℕ} (k : First f n) where
       sym (pow-add (f .base) (f .digits) (highestPlace f - f .digits)) ∙ ap (λ (j : ℕ). f .base ^ j) (omega (arith, k .reach .low, k .reach .span)) in
       omega (arith, scaled-up-most ok n, mul-le-mul-left (f .base ^ f .digits) ufp-most, power-most (k .admits) (highestPlace f) (omega arith))
 
-  abbrev q : ℤ
-  q = scaled-up (f .base) (f .digits) (one f) n
-
-  pub scaled-gives : {a b : Number} {r : Answer} → Has f a (pos phi) → Has f b (pos n) → r ≡ roundedProduct f toward-zero a b → Gives f r q
+  pub q-gives : {a b : Number} → Has f a (pos (phi f)) → Has f b (pos n) → Gives f a b (productOf f toward-zero a b) (q f n)
   unfolding scaled-up
-  scaled-gives x y e = product-gives (k .admits) toward-zero x y (k .reach .not-above) (rw (scaled-up-is ok (one f) n (one-positive (k .admits))) scaled-most) e
+  q-gives x y =
+      gives (k .reach .not-above) x y (product (f .base) (f .digits) toward-zero (one f)) refl (rw (scaled-up-is ok (one f) n (one-positive (k .admits))) scaled-most)
 
   -- ---- line 5, p1 q and S = q - p1 q
-  abbrev shrunk : ℤ
-  shrunk = product (f .base) (f .digits) toward-zero (one f) (below-one (f .base) (f .digits) (one f)) q
+  pub shrunk-gives : {a b : Number} → Has f a (p1 f) → Has f b (q f n) → Gives f a b (productOf f toward-zero a b) (shrunk f n)
+  shrunk-gives x y =
+      gives (k .reach .not-above) x y (product (f .base) (f .digits) toward-zero (one f)) refl (rw (one-is, shrunk-is ok spare n) (omega (arith, scaled-most)))
 
-  pub shrunk-gives : {a b : Number} {r : Answer} → Has f a (below-one (f .base) (f .digits) (one f)) → Has f b q → r ≡ roundedProduct f toward-zero a b → Gives f r shrunk
-  shrunk-gives x y e =
-      product-gives (k .admits) toward-zero x y (k .reach .not-above) (rw (one-is, shrunk-is ok spare n) (omega (arith, scaled-most))) e
-
-  first-is : difference (f .base) (f .digits) toward-zero q shrunk ≡ pos (ufp (f .base) n)
+  first-is : difference (f .base) (f .digits) toward-zero (q f n) (shrunk f n) ≡ pos (ufp (f .base) n)
   unfolding ufp-toward-zero
   first-is = rw one-is (ufp-toward-zero-is ok spare n)
 
-  pub first-gives : {a b : Number} {r : Answer} → Has f a q → Has f b shrunk → r ≡ roundedDifference f toward-zero a b → Gives f r (pos (ufp (f .base) n))
-  first-gives x y e = renamed (difference-gives (k .admits) toward-zero x y (rw first-is (omega (arith, ufp-most, within))) e) first-is
+  pub first-gives : {a b : Number} → Has f a (q f n) → Has f b (shrunk f n) → Gives f a b (differenceOf f toward-zero a b) (pos (ufp (f .base) n))
+  first-gives x y = gives (k .reach .not-above) x y (difference (f .base) (f .digits) toward-zero) first-is (omega (arith, ufp-most, within))
     where
       within : f .base ^ (highestPlace f - f .digits) ≤ greatest f
       within = power-most (k .admits) (highestPlace f - f .digits) (omega arith)

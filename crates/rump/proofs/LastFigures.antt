@@ -1,8 +1,9 @@
 -- Figures 3, 4 and 5, line by line: under their premise no line passes the number after |f|, so each gives the theory's value.
 use Prim.Native.Nat.{ℕ, _+_, _*_, _-_, _≤_}
-use mathlib.Core.Path.{_≡_, ap}
+use mathlib.Core.Path.{_≡_, refl, ap}
+use native.Mathlib.Nat.{le-trans}
 use native.Mathlib.Omega.{arith}
-use lib.IntN.{ℤ, pos}
+use lib.IntN.{ℤ, pos, natAbs}
 use Rattle.theory.specs.Place.{Positional}
 use Rattle.theory.specs.Round.{toward-zero, upward}
 use Rattle.theory.specs.Units.{ulp}
@@ -14,99 +15,112 @@ use Rattle.theory.proofs.LastPlace.{Unbranched, successor-most, sum-upward-is, 
 use Rattle.format.specs.declared.Format.{Format}
 use Rattle.format.proofs.Formats.{positional}
 use Rattle.number.specs.declared.Number.{Number}
-use Rattle.number.specs.declared.Answer.{Answer}
 use Rattle.number.specs.Exponents.{belowZero}
-use Rattle.number.specs.Numbers.{greatest}
+use Rattle.number.specs.Numbers.{value, greatest}
 use Rattle.number.proofs.Values.{greatest-wide}
-use Rattle.prepared_arithmetic.specs.Operations.{roundedSum, roundedDifference, roundedProduct}
 use Rattle.rump_premises.specs.Values.{one, Has}
 use Rattle.rump_premises.proofs.Reach.{Last, first-power, one-positive, constant-most}
-use Rattle.rump.specs.Steps.{Gives}
-use Rattle.rump.proofs.Steps.{renamed, sum-gives, difference-gives, product-gives}
+use Rattle.rump.specs.Steps.{sumOf, differenceOf, productOf}
+use Rattle.rump.proofs.Steps.{Gives, gives}
 
 less-one : (c B t : ℕ) → B ≡ c + 1 → t + c * t ≡ B * t
 less-one c B t e = rw e (omega arith)
+
+-- ---- the values of their lines, in units
+-- figure 5: β - 1
+abbrev pub factor : Format → ℤ
+factor f = pos ((f .base - 1) * one f)
+
+module _ (f : Format) (n : ℕ) where
+  abbrev pub last-place : ℤ
+  last-place = pos (ulp (f .base) (f .digits) n)
+
+  -- figure 3: the number after |f|
+  abbrev pub next : ℤ
+  next = sum (f .base) (f .digits) upward (pos n) (pos 1)
+
+  -- figures 4 and 5: the number before |f|, S, f + S
+  abbrev pub preceding : ℤ
+  preceding = difference (f .base) (f .digits) toward-zero (pos n) (pos 1)
+
+  abbrev pub S : ℤ
+  S = gap-below (f .base) (f .digits) n
+
+  abbrev pub raised : ℤ
+  raised = sum (f .base) (f .digits) toward-zero (pos n) S
+
+  -- figure 5: (f + S) - f, d, (β - 1) d
+  abbrev pub back : ℤ
+  back = difference (f .base) (f .digits) toward-zero raised (pos n)
+
+  abbrev pub d : ℤ
+  d = gap-defect (f .base) (f .digits) n
+
+  abbrev pub correction : ℤ
+  correction = product (f .base) (f .digits) toward-zero (one f) (factor f) d
 
 module _ {f : Format} {n : ℕ} (k : Last f n) where
   ok : Positional (f .base) (f .digits)
   ok = positional (k .admits)
 
-  -- the number after |f|
   next-most : n + ulp (f .base) (f .digits) n ≤ greatest f
   next-most = successor-most ok (k .wide) (k .some) (greatest-wide (k .admits)) (k .less)
 
-  -- ---- figure 3
-  pub after-gives : {a b : Number} {r : Answer} → Has f a (pos n) → Has f b (pos 1) → r ≡ roundedSum f upward a b → Gives f r (sum (f .base) (f .digits) upward (pos n) (pos 1))
-  after-gives x y e = sum-gives (k .admits) upward x y (rw (sum-upward-is ok (k .wide) (k .some)) next-most) e
+  -- an operation on numbers whose values are known
+  module _ {a b : Number} {v w : ℤ} (x : Has f a v) (y : Has f b w) where
+    by : (operation : ℤ → ℤ → ℤ) {u : ℤ} → operation v w ≡ u → natAbs u ≤ n + ulp (f .base) (f .digits) n → Gives f a b (operation (value f a) (value f b)) u
+    by operation e l = gives (k .reach .not-above) x y operation e (le-trans l next-most)
 
-  upward-is : difference (f .base) (f .digits) upward (sum (f .base) (f .digits) upward (pos n) (pos 1)) (pos n) ≡ pos (ulp (f .base) (f .digits) n)
+  -- ---- figure 3
+  pub next-gives : {a b : Number} → Has f a (pos n) → Has f b (pos 1) → Gives f a b (sumOf f upward a b) (next f n)
+  next-gives x y = by x y (sum (f .base) (f .digits) upward) refl (rw (sum-upward-is ok (k .wide) (k .some)) (omega arith))
+
+  upward-is : difference (f .base) (f .digits) upward (next f n) (pos n) ≡ last-place f n
   unfolding ulp-upward
   upward-is = ulp-upward-is ok (k .wide) (k .some)
 
-  pub upward-gives : {a b : Number} {r : Answer} → Has f a (sum (f .base) (f .digits) upward (pos n) (pos 1)) → Has f b (pos n) → r ≡ roundedDifference f upward a b
-      → Gives f r (pos (ulp (f .base) (f .digits) n))
-  upward-gives x y e = renamed (difference-gives (k .admits) upward x y (rw upward-is (omega (arith, next-most))) e) upward-is
+  pub upward-gives : {a b : Number} → Has f a (next f n) → Has f b (pos n) → Gives f a b (differenceOf f upward a b) (last-place f n)
+  upward-gives x y = by x y (difference (f .base) (f .digits) upward) upward-is (omega arith)
 
   -- ---- figures 4 and 5
   lines : Unbranched (f .base) (f .digits) (one f) n
   lines = unbranched ok (k .wide) (k .some) (one f) (one-positive (k .admits))
 
-  -- line 3, the number before |f|
-  abbrev before : ℤ
-  before = difference (f .base) (f .digits) toward-zero (pos n) (pos 1)
+  pub preceding-gives : {a b : Number} → Has f a (pos n) → Has f b (pos 1) → Gives f a b (differenceOf f toward-zero a b) (preceding f n)
+  preceding-gives x y =
+      by x y (difference (f .base) (f .digits) toward-zero) refl (rw (difference-toward-zero ok n 1 (k .some)) (omega (arith, lower-le ok (n - 1))))
 
-  pub before-gives : {a b : Number} {r : Answer} → Has f a (pos n) → Has f b (pos 1) → r ≡ roundedDifference f toward-zero a b → Gives f r before
-  before-gives x y e =
-      difference-gives (k .admits) toward-zero x y (rw (difference-toward-zero ok n 1 (k .some)) (omega (arith, lower-le ok (n - 1), k .less))) e
-
-  -- line 4, S
-  abbrev S : ℤ
-  S = gap-below (f .base) (f .digits) n
-
-  pub gap-gives : {a b : Number} {r : Answer} → Has f a (pos n) → Has f b before → r ≡ roundedDifference f toward-zero a b → Gives f r S
+  pub gap-gives : {a b : Number} → Has f a (pos n) → Has f b (preceding f n) → Gives f a b (differenceOf f toward-zero a b) (S f n)
   unfolding gap-below
-  gap-gives x y e = difference-gives (k .admits) toward-zero x y (omega (arith, lines .gap-most, next-most)) e
+  gap-gives x y = by x y (difference (f .base) (f .digits) toward-zero) refl (omega (arith, lines .gap-most))
 
-  -- line 5, f + S
-  abbrev raised : ℤ
-  raised = sum (f .base) (f .digits) toward-zero (pos n) S
-
-  pub raised-gives : {a b : Number} {r : Answer} → Has f a (pos n) → Has f b S → r ≡ roundedSum f toward-zero a b → Gives f r raised
-  raised-gives x y e = sum-gives (k .admits) toward-zero x y (omega (arith, lines .sum-most, next-most)) e
+  pub raised-gives : {a b : Number} → Has f a (pos n) → Has f b (S f n) → Gives f a b (sumOf f toward-zero a b) (raised f n)
+  raised-gives x y = by x y (sum (f .base) (f .digits) toward-zero) refl (lines .sum-most)
 
   -- figure 4, β S where f + S gives f, and S elsewhere
-  pub corrected-gives : {a b : Number} {r : Answer} → raised ≡ pos n → Has f a (pos (f .base * one f)) → Has f b S → r ≡ roundedProduct f toward-zero a b
-      → Gives f r (pos (ulp (f .base) (f .digits) n))
-  corrected-gives h x y e =
-      let is = ulp-if-same ok (k .wide) (k .some) (one f) (one-positive (k .admits)) h in
-      renamed (product-gives (k .admits) toward-zero x y (k .reach .not-above) (rw is (omega (arith, next-most))) e) is
+  pub corrected-gives : {a b : Number} → raised f n ≡ pos n → Has f a (pos (f .base * one f)) → Has f b (S f n) → Gives f a b (productOf f toward-zero a b) (last-place f n)
+  corrected-gives h x y =
+      by x y (product (f .base) (f .digits) toward-zero (one f)) (ulp-if-same ok (k .wide) (k .some) (one f) (one-positive (k .admits)) h) (omega arith)
 
-  pub gap-last : ¬ (raised ≡ pos n) → S ≡ pos (ulp (f .base) (f .digits) n)
+  pub gap-last : ¬ (raised f n ≡ pos n) → S f n ≡ last-place f n
   gap-last h = ulp-if-other ok (k .wide) (k .some) h
 
   -- figure 5, d = ((f + S) - f) - S
-  abbrev back : ℤ
-  back = difference (f .base) (f .digits) toward-zero raised (pos n)
+  pub back-gives : {a b : Number} → Has f a (raised f n) → Has f b (pos n) → Gives f a b (differenceOf f toward-zero a b) (back f n)
+  back-gives x y = by x y (difference (f .base) (f .digits) toward-zero) refl (omega (arith, lines .back-most))
 
-  pub back-gives : {a b : Number} {r : Answer} → Has f a raised → Has f b (pos n) → r ≡ roundedDifference f toward-zero a b → Gives f r back
-  back-gives x y e = difference-gives (k .admits) toward-zero x y (omega (arith, lines .back-most, next-most)) e
-
-  abbrev d : ℤ
-  d = gap-defect (f .base) (f .digits) n
-
-  pub defect-gives : {a b : Number} {r : Answer} → Has f a back → Has f b S → r ≡ roundedDifference f toward-zero a b → Gives f r d
+  pub defect-gives : {a b : Number} → Has f a (back f n) → Has f b (S f n) → Gives f a b (differenceOf f toward-zero a b) (d f n)
   unfolding gap-defect
-  defect-gives x y e = difference-gives (k .admits) toward-zero x y (omega (arith, lines .defect-most, next-most)) e
+  defect-gives x y = by x y (difference (f .base) (f .digits) toward-zero) refl (omega (arith, lines .defect-most))
 
   -- figure 5, line 6: β - 1, (β - 1) d and S - (β - 1) d
-  base-pred-is : difference (f .base) (f .digits) toward-zero (pos (f .base * one f)) (pos (one f)) ≡ pos ((f .base - 1) * one f)
-  base-pred-is =
+  factor-is : difference (f .base) (f .digits) toward-zero (pos (f .base * one f)) (pos (one f)) ≡ factor f
+  factor-is =
       difference-exact ok toward-zero (f .base * one f) (one f) ((f .base - 1) * one f)
       (less-one (f .base - 1) (f .base) (one f) (omega (arith, k .admits .base-low))) (wide-base-pred ok (belowZero (f .emin)))
 
-  pub base-pred-gives : {a b : Number} {r : Answer} → Has f a (pos (f .base * one f)) → Has f b (pos (one f)) → r ≡ roundedDifference f toward-zero a b
-      → Gives f r (pos ((f .base - 1) * one f))
-  base-pred-gives x y e = renamed (difference-gives (k .admits) toward-zero x y (rw base-pred-is within) e) base-pred-is
+  pub factor-gives : {a b : Number} → Has f a (pos (f .base * one f)) → Has f b (pos (one f)) → Gives f a b (differenceOf f toward-zero a b) (factor f)
+  factor-gives x y = gives (k .reach .not-above) x y (difference (f .base) (f .digits) toward-zero) factor-is within
     where
       within : (f .base - 1) * one f ≤ greatest f
       within =
@@ -117,15 +131,12 @@ module _ {f : Format} {n : ℕ} (k : Last f n) where
             constant-most (k .admits) (k .reach) 1 (k .admits .digits-low),
           )
 
-  abbrev correction : ℤ
-  correction = product (f .base) (f .digits) toward-zero (one f) (pos ((f .base - 1) * one f)) d
+  pub correction-gives : {a b : Number} → Has f a (factor f) → Has f b (d f n) → Gives f a b (productOf f toward-zero a b) (correction f n)
+  correction-gives x y = by x y (product (f .base) (f .digits) toward-zero (one f)) refl (omega (arith, lines .correction-most))
 
-  pub correction-gives : {a b : Number} {r : Answer} → Has f a (pos ((f .base - 1) * one f)) → Has f b d → r ≡ roundedProduct f toward-zero a b → Gives f r correction
-  correction-gives x y e = product-gives (k .admits) toward-zero x y (k .reach .not-above) (omega (arith, lines .correction-most, next-most)) e
-
-  unbranched-is : difference (f .base) (f .digits) toward-zero S correction ≡ pos (ulp (f .base) (f .digits) n)
+  unbranched-is : difference (f .base) (f .digits) toward-zero (S f n) (correction f n) ≡ last-place f n
   unfolding ulp-unbranched
   unbranched-is = lines .result
 
-  pub unbranched-gives : {a b : Number} {r : Answer} → Has f a S → Has f b correction → r ≡ roundedDifference f toward-zero a b → Gives f r (pos (ulp (f .base) (f .digits) n))
-  unbranched-gives x y e = renamed (difference-gives (k .admits) toward-zero x y (rw unbranched-is (omega (arith, next-most))) e) unbranched-is
+  pub unbranched-gives : {a b : Number} → Has f a (S f n) → Has f b (correction f n) → Gives f a b (differenceOf f toward-zero a b) (last-place f n)
+  unbranched-gives x y = by x y (difference (f .base) (f .digits) toward-zero) unbranched-is (omega arith)

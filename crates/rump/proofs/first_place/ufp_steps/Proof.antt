@@ -1,132 +1,104 @@
 -- `rump::first_place::ufp_steps` meets its contract.
 use borrow.Author.Needs.{needs}
-use mathlib.Core.Path.{ap}
+use Prim.Native.Nat.{ℕ, _*_, _-_, _^_}
+use mathlib.Core.Path.{subst}
 use native.Mathlib.Omega.{arith}
 use lib.IntN.{pos}
-use Rattle.theory.specs.Round.{toward-zero}
-use Rattle.theory.specs.Rump.{product, below-one, scaled-up}
+use Rattle.format.specs.declared.Format.{Format}
 use Rattle.number.specs.Numbers.{magnitude}
 use Rattle.number.proofs.Membership.{known}
 use Rattle.rump_premises.specs.Values.{one, Has}
-use Rattle.rump_premises.proofs.Reach.{First, first, first-format, first-same}
-use Rattle.rump_premises.proofs.Values.{has-one, has-size, has-own}
-use Rattle.rump.specs.Steps.{Gives}
-use Rattle.rump.proofs.Steps.{taken, not-refused, renamed, gives-number, magnitude-has}
-use Rattle.rump.proofs.FirstFigure.{below-one-gives, shrunk-gives, first-gives}
+use Rattle.rump_premises.proofs.Reach.{first-format}
+use Rattle.rump_premises.proofs.Values.{has-one}
+use Rattle.rump.proofs.Entered.{first-of}
+use Rattle.rump.proofs.Steps.{line}
+use Rattle.rump.proofs.FirstFigure.{p1, phi, q, shrunk, p1-gives, phi-gives, q-gives, shrunk-gives, first-gives}
 use Rattle.rump.proofs.first_place.ufp_steps.Statement.{statement}
 use Rattle.rump.proofs.first_place.ufp_steps.Tie as tie
 
-first-of : (s : tie.Start) → First (s .args .prepared .format) (magnitude (s .args .prepared .format) (s .args .x))
-first-of s = first (s .pre .0) (s .args .x) (s .pre .2)
+abbrev form : tie.Start → Format
+form s = s .args .prepared .format
 
+abbrev size : tie.Start → ℕ
+size s = magnitude (form s) (s .args .f)
+
+-- ---- 1 and p1
 power-requires : tie.Need-power-requires
-power-requires c κs = (c .pre .0, first-format _ _ (c .pre .2), omega arith)
+power-requires c κs = (c .pre .usable, first-format _ _ (c .pre .kept), omega arith)
 
 subrealmin-requires : tie.Need-subrealmin-requires
 subrealmin-requires c κs = search needs
 
--- ---- p1
-subtract-requires : tie.Need-subtract-requires
-subtract-requires c κs = let o = c .before in (o .before .pre .0, o .power .ensures .number, c .subrealmin .ensures .number)
+difference-requires : tie.Need-difference-requires
+difference-requires c κs =
+    let s = c .before .before in
+    (s .pre .usable, p1-gives (first-of (s .pre)) (has-one (c .before .power .ensures)) (c .subrealmin .ensures) .within)
 
-abbrev start₁ : tie.After-subtract → tie.Start
+abbrev start₁ : tie.After-difference → tie.Start
 start₁ c = c .before .before .before
 
-below-given : (c : tie.After-subtract) → let f = start₁ c .args .prepared .format in Gives f (c .subtract .result) (below-one (f .base) (f .digits) (one f))
-below-given c = below-one-gives (first-of (start₁ c)) (has-one (c .before .before .power .ensures)) (c .before .subrealmin .ensures) (c .subtract .ensures)
+p1-has : (c : tie.After-difference) → Has (form (start₁ c)) (c .difference .result) (p1 (form (start₁ c)))
+p1-has c = line (p1-gives (first-of (start₁ c .pre)) (has-one (c .before .before .power .ensures)) (c .before .subrealmin .ensures)) (c .difference .ensures)
 
-enum-known-below : tie.Need-enum-known-below
-enum-known-below c = search needs
+-- ---- φ
+sub-power : tie.Need-sub-power
+sub-power c = let k = known (start₁ (c .before) .pre .usable) in omega (arith, k .digits, k .admits .digits-low)
 
-enum-told : tie.Need-enum-told
-enum-told c = search needs
+power-requires-2 : tie.Need-power-requires-2
+power-requires-2 c κs =
+    let s = start₁ (c .before) in
+    (s .pre .usable, first-format _ _ (s .pre .kept), omega (arith, known (s .pre .usable) .digits))
 
-returns : tie.Need-returns
-returns c = absurd (not-refused (below-given (c .before .before)) (c .enum-told .given .1))
-
-below-has : (c : tie.After-below) → let f = start₁ (c .before .before) .args .prepared .format in Has f (c .below .given .0 .0) (below-one (f .base) (f .digits) (one f))
-below-has c = taken (below-given (c .before .before)) (c .below .given .1)
-
--- ---- f
-with-sign-requires : tie.Need-with-sign-requires
-with-sign-requires c κs = search needs
-
-abbrev below : tie.After-with-sign → tie.After-below
+abbrev below : tie.After-power2 → tie.After-difference
 below c = c .before .before
 
-abbrev start₂ : tie.After-with-sign → tie.Start
-start₂ c = start₁ (below c .before .before)
+abbrev start₂ : tie.After-power2 → tie.Start
+start₂ c = start₁ (below c)
 
-f-has : (c : tie.After-with-sign) → let s = start₂ c .args in Has (s .prepared .format) (c .with-sign .result) (pos (magnitude (s .prepared .format) (s .x)))
-f-has c = let s = start₂ c in magnitude-has (known (s .pre .0) .admits) (s .args .x) (s .pre .1) (c .with-sign .ensures)
-
-scaled-requires : tie.Need-scaled-requires
-scaled-requires c κs =
+lead-has : (c : tie.After-power2) → let f = form (start₂ c) in Has f (c .power2 .result) (pos (f .base ^ (f .digits - 1) * one f))
+lead-has c =
     let s = start₂ c in
-    (s .pre .0, has-own (f-has c), first-same (s .args .prepared .format) (s .args .x) (c .with-sign .result) (has-size (f-has c)) (s .pre .2))
+    subst (λ (p : ℕ). Has (form s) (c .power2 .result) (pos (form s .base ^ (p - 1) * one (form s)))) (known (s .pre .usable) .digits) (c .power2 .ensures)
 
--- ---- q and p1 q
-abbrev size : tie.After-scaled → tie.After-with-sign
-size c = c .before
+sum-requires : tie.Need-sum-requires
+sum-requires c κs =
+    let s = start₂ c in
+    (s .pre .usable, phi-gives (first-of (s .pre)) (lead-has c) (has-one (below c .before .before .power .ensures)) .within)
 
-scaled-given : (c : tie.After-scaled) → let s = start₂ (size c) .args in let f = s .prepared .format in Gives f (c .scaled .result) (scaled-up (f .base) (f .digits) (one f) (magnitude f (s .x)))
-scaled-given c =
-    let f = start₂ (size c) .args .prepared .format in
-    renamed (c .scaled .ensures) (ap (scaled-up (f .base) (f .digits) (one f)) (has-size (f-has (size c))))
+phi-has : (c : tie.After-sum) → let f = form (start₂ (c .before)) in Has f (c .sum .result) (pos (phi f))
+phi-has c =
+    let l = c .before in
+    line (phi-gives (first-of (start₂ l .pre)) (lead-has l) (has-one (below l .before .before .power .ensures))) (c .sum .ensures)
 
-enum-known-enlarged : tie.Need-enum-known-enlarged
-enum-known-enlarged c = search needs
+-- ---- q, p1 q and q - p1 q
+product-requires : tie.Need-product-requires
+product-requires c κs = let s = start₂ (c .before) in (s .pre .usable, q-gives (first-of (s .pre)) (phi-has c) (s .pre .size) .within)
 
-enum-told-2 : tie.Need-enum-told-2
-enum-told-2 c = search needs
+abbrev start₃ : tie.After-product → tie.Start
+start₃ c = start₂ (c .before .before)
 
-returns-2 : tie.Need-returns-2
-returns-2 c = search needs
+q-has : (c : tie.After-product) → Has (form (start₃ c)) (c .product .result) (q (form (start₃ c)) (size (start₃ c)))
+q-has c = let s = start₃ c in line (q-gives (first-of (s .pre)) (phi-has (c .before)) (s .pre .size)) (c .product .ensures)
 
-abbrev step : tie.After-enlarged → tie.After-with-sign
-step c = size (c .before .before)
+product-requires-2 : tie.Need-product-requires-2
+product-requires-2 c κs =
+    let s = start₃ c in
+    (s .pre .usable, shrunk-gives (first-of (s .pre)) (p1-has (below (c .before .before))) (q-has c) .within)
 
-q-has : (c : tie.After-enlarged) → let s = start₂ (step c) .args in let f = s .prepared .format in
-    Has f (c .enlarged .given .0 .0) (scaled-up (f .base) (f .digits) (one f) (magnitude f (s .x)))
-q-has c = taken (scaled-given (c .before .before)) (c .enlarged .given .1)
+shrunk-has : (c : tie.After-product2) → let s = start₃ (c .before) in Has (form s) (c .product2 .result) (shrunk (form s) (size s))
+shrunk-has c =
+    let k = c .before in
+    line (shrunk-gives (first-of (start₃ k .pre)) (p1-has (below (k .before .before))) (q-has k)) (c .product2 .ensures)
 
-multiply-requires : tie.Need-multiply-requires
-multiply-requires c κs = let q = c .before in (start₂ (step q) .pre .0, below-has (below (step q)) .number, q-has q .number)
+difference-requires-2 : tie.Need-difference-requires-2
+difference-requires-2 c κs =
+    let s = start₃ (c .before) in
+    (s .pre .usable, first-gives (first-of (s .pre)) (q-has (c .before)) (shrunk-has c) .within)
 
-abbrev enlarged : tie.After-multiply → tie.After-enlarged
-enlarged c = c .before .before
-
-shrunk-given : (c : tie.After-multiply) → let s = start₂ (step (enlarged c)) .args in let f = s .prepared .format in
-    Gives f (c .multiply .result) (product (f .base) (f .digits) toward-zero (one f) (below-one (f .base) (f .digits) (one f)) (scaled-up (f .base) (f .digits) (one f) (magnitude f (s .x))))
-shrunk-given c =
-    let k = step (enlarged c) in
-    shrunk-gives (first-of (start₂ k)) (below-has (below k)) (q-has (enlarged c)) (c .multiply .ensures)
-
-enum-known-shrunk : tie.Need-enum-known-shrunk
-enum-known-shrunk c = search needs
-
-enum-told-3 : tie.Need-enum-told-3
-enum-told-3 c = search needs
-
-returns-3 : tie.Need-returns-3
-returns-3 c = absurd (not-refused (shrunk-given (c .before .before)) (c .enum-told3 .given .1))
-
-shrunk-has : (c : tie.After-shrunk) → let s = start₂ (step (enlarged (c .before .before))) .args in let f = s .prepared .format in
-    Has f (c .shrunk .given .0 .0) (product (f .base) (f .digits) toward-zero (one f) (below-one (f .base) (f .digits) (one f)) (scaled-up (f .base) (f .digits) (one f) (magnitude f (s .x))))
-shrunk-has c = taken (shrunk-given (c .before .before)) (c .shrunk .given .1)
-
-subtract-requires-2 : tie.Need-subtract-requires-2
-subtract-requires-2 c κs =
+returns : tie.Need-returns
+returns c =
     let r = c .before in
-    let q = enlarged (r .before .before) in
-    (start₂ (step q) .pre .0, q-has q .number, shrunk-has r .number)
-
-returns-4 : tie.Need-returns-4
-returns-4 c =
-    let r = c .before .before in
-    let q = enlarged (r .before .before) in
-    let s = start₂ (step q) in
-    gives-number (known (s .pre .0) .admits) (first-gives (first-of s) (q-has q) (shrunk-has r) (c .subtract2 .ensures))
+    line (first-gives (first-of (start₃ (r .before) .pre)) (q-has (r .before)) (shrunk-has r)) (c .difference2 .ensures)
 
 pub ufp-steps-spec : {M : Type 1} → statement M
 ufp-steps-spec =
@@ -134,18 +106,11 @@ ufp-steps-spec =
     (tie.spec
     power-requires
     subrealmin-requires
-    subtract-requires
-    enum-known-below
-    enum-told
-    returns
-    with-sign-requires
-    scaled-requires
-    enum-known-enlarged
-    enum-told-2
-    returns-2
-    multiply-requires
-    enum-known-shrunk
-    enum-told-3
-    returns-3
-    subtract-requires-2
-    returns-4)
+    difference-requires
+    sub-power
+    power-requires-2
+    sum-requires
+    product-requires
+    product-requires-2
+    difference-requires-2
+    returns)

@@ -8,7 +8,7 @@ use Rattle.number.specs.Entry.{entered}
 use Rattle.number.proofs.Entries.{ends}
 use Rattle.units.proofs.Entered.{inside}
 use Rattle.rump.specs.Routes.{ufpRoute}
-use Rattle.rump.proofs.Entered.{first-refused, first-answered}
+use Rattle.rump.proofs.Entered.{to-first, route-refused, route-argument, route-answered}
 use Rattle.rump.proofs.first_place.ufp_toward_zero.Statement.{statement}
 use Rattle.rump.proofs.first_place.ufp_toward_zero.Tie as tie
 
@@ -25,26 +25,31 @@ passes : (c : tie.After-prepared) → let s = c .before .before .before .args in
 passes c = sym (c .before .before .enter .ensures) ∙ c .prepared .given .1
 
 first-premise-requires : tie.Need-first-premise-requires
-first-premise-requires c κs = let p = c .before in inside _ _ (passes p)
+first-premise-requires c κs = inside _ _ (passes (c .before))
 
 returns : tie.Need-returns
-returns c = let p = c .before in first-refused _ _ (passes (p .before .before)) (denied (p .first-premise .ensures) (c .if1 .taken))
+unfolding ufpRoute
+returns c = let p = c .before in route-refused to-first _ _ (passes (p .before .before)) (denied (p .first-premise .ensures) (c .if1 .taken))
+
+with-sign-requires : tie.Need-with-sign-requires
+with-sign-requires c κs = search needs
 
 ufp-steps-requires : tie.Need-ufp-steps-requires
 ufp-steps-requires c κs =
-    let p = c .before in
-    let i = inside _ _ (passes (p .before .before)) in
-    (i .0, i .1, granted (p .first-premise .ensures) (c .if1 .left))
+    let e = c .before in
+    let p = e .before in
+    route-argument to-first _ _ (passes (p .before .before)) (granted (p .first-premise .ensures) (e .if1 .left)) (c .with-sign .ensures)
 
 returns-2 : tie.Need-returns-2
 unfolding ufpRoute
 returns-2 c = ends _ _ _ _ _ (sym (c .before .before .before .enter .ensures) ∙ c .before .why .given .1)
 
 returns-3 : tie.Need-returns-3
+unfolding ufpRoute
 returns-3 c =
-    let e = c .before in
+    let e = c .before .before in
     let p = e .before in
-    first-answered _ _ (passes (p .before .before)) (granted (p .first-premise .ensures) (e .if1 .left)) (c .ufp-steps .ensures)
+    route-answered to-first _ _ (passes (p .before .before)) (granted (p .first-premise .ensures) (e .if1 .left)) (c .before .with-sign .ensures) (c .ufp-steps .ensures)
 
 pub ufp-toward-zero-spec : {M : Type 1} → statement M
 ufp-toward-zero-spec =
@@ -55,6 +60,7 @@ ufp-toward-zero-spec =
     enum-known-prepared
     first-premise-requires
     returns
+    with-sign-requires
     ufp-steps-requires
     returns-2
     returns-3)

@@ -1,4 +1,4 @@
--- `rump::last_place::ulp_toward_zero` meets its contract.
+-- `rump::last_place::ulp_route` meets its contract.
 use borrow.Author.Needs.{needs}
 use mathlib.Core.Path.{_≡_, sym, _∙_}
 use mathlib.Core.List.{[], _∷_}
@@ -8,9 +8,9 @@ use Rattle.number.specs.Entry.{entered}
 use Rattle.number.proofs.Entries.{ends}
 use Rattle.units.proofs.Entered.{inside}
 use Rattle.rump.specs.Routes.{ulpRoute}
-use Rattle.rump.proofs.Entered.{last-refused, last-answered}
-use Rattle.rump.proofs.last_place.ulp_toward_zero.Statement.{statement}
-use Rattle.rump.proofs.last_place.ulp_toward_zero.Tie as tie
+use Rattle.rump.proofs.Entered.{to-last, route-refused, route-argument, route-answered}
+use Rattle.rump.proofs.last_place.ulp_route.Statement.{statement}
+use Rattle.rump.proofs.last_place.ulp_route.Tie as tie
 
 enter-requires : tie.Need-enter-requires
 enter-requires c κs = search needs
@@ -25,29 +25,34 @@ passes : (c : tie.After-prepared) → let s = c .before .before .before .args in
 passes c = sym (c .before .before .enter .ensures) ∙ c .prepared .given .1
 
 last-premise-requires : tie.Need-last-premise-requires
-last-premise-requires c κs = let p = c .before in inside _ _ (passes p)
+last-premise-requires c κs = inside _ _ (passes (c .before))
 
 returns : tie.Need-returns
-returns c = let p = c .before in last-refused _ _ (passes (p .before .before)) (denied (p .last-premise .ensures) (c .if1 .taken))
+unfolding ulpRoute
+returns c = let p = c .before in route-refused to-last _ _ (passes (p .before .before)) (denied (p .last-premise .ensures) (c .if1 .taken))
 
-toward-zero-steps-requires : tie.Need-toward-zero-steps-requires
-toward-zero-steps-requires c κs =
-    let p = c .before in
-    let i = inside _ _ (passes (p .before .before)) in
-    (i .0, i .1, granted (p .last-premise .ensures) (c .if1 .left))
+with-sign-requires : tie.Need-with-sign-requires
+with-sign-requires c κs = search needs
+
+steps-requires : tie.Need-steps-requires
+steps-requires c κs =
+    let e = c .before in
+    let p = e .before in
+    route-argument to-last _ _ (passes (p .before .before)) (granted (p .last-premise .ensures) (e .if1 .left)) (c .with-sign .ensures)
 
 returns-2 : tie.Need-returns-2
 unfolding ulpRoute
 returns-2 c = ends _ _ _ _ _ (sym (c .before .before .before .enter .ensures) ∙ c .before .why .given .1)
 
 returns-3 : tie.Need-returns-3
+unfolding ulpRoute
 returns-3 c =
-    let e = c .before in
+    let e = c .before .before in
     let p = e .before in
-    last-answered _ _ (passes (p .before .before)) (granted (p .last-premise .ensures) (e .if1 .left)) (c .toward-zero-steps .ensures)
+    route-answered to-last _ _ (passes (p .before .before)) (granted (p .last-premise .ensures) (e .if1 .left)) (c .before .with-sign .ensures) (c .steps .ensures)
 
-pub ulp-toward-zero-spec : {M : Type 1} → statement M
-ulp-toward-zero-spec =
+pub ulp-route-spec : {M : Type 1} → statement M
+ulp-route-spec =
     tie.close
     (tie.spec
     enter-requires
@@ -55,6 +60,7 @@ ulp-toward-zero-spec =
     enum-known-prepared
     last-premise-requires
     returns
-    toward-zero-steps-requires
+    with-sign-requires
+    steps-requires
     returns-2
     returns-3)
