@@ -3,7 +3,6 @@
 use Prim.Native.Nat.{ℕ, suc, _+_, _≤_, _<_}
 use mathlib.Core.Path.{_≡_, refl, sym, ap, subst, _∙_}
 use mathlib.Core.Bool.{Bool, true, false, not}
-use mathlib.Core.List.{[], _∷_}
 use mathlib.Core.Logic.{_⊎_, inl, inr, ⊎-elim}
 use native.Mathlib.Nat.{le-of-suc-le-suc, lt-of-not-le}
 use native.Mathlib.Omega.{arith}
@@ -22,9 +21,9 @@ use Rattle.format.specs.declared.Refusal.the-variants.{TooLarge}
 use Rattle.format.proofs.Formats.{Admitted, positional}
 use Rattle.format.proofs.Signed.{apart}
 use Rattle.number.specs.declared.Number.{Number}
+use Rattle.number.specs.declared.Answer.{Answer}
 use Rattle.number.specs.declared.Answer.the-variants.{Value, Refused}
 use Rattle.number.specs.Numbers.{magnitude, value, greatest, number, delivered}
-use Rattle.number.specs.Entry.{entry, after}
 use Rattle.number.proofs.Membership.{Member}
 use Rattle.number.proofs.Values as values
 use Rattle.number.proofs.Negation.{signed-member, negated-value}
@@ -42,6 +41,9 @@ pub record LeastNumberAbove (f : Format) (x y : Number) : Type 0 where
   pub number : Member f y
   pub above : value f x <ℤ value f y
   pub least : (z : Number) → Member f z → value f x <ℤ value f z → value f y ≤ℤ value f z
+
+less : {v w : ℤ} → v <ℤ w → v ≤ℤ w
+less l = parts-le _ _ (omega (arith, lt-parts l))
 
 not-less : {v w : ℤ} → (v <ℤ w → ⊥) → w ≤ℤ v
 not-less {v} {w} h = parts-le w v (le-of-suc-le-suc (lt-of-not-le (λ (l : suc (above v + below w) ≤ above w + below v). h (parts-lt v w l))))
@@ -77,58 +79,40 @@ module _ {f : Format} (a : Admitted f) where
           )
       by false e = inr (unless-failed _ _ e, leb-false _ _ e)
 
+  -- ---- what a call answers by the value v that is sought
+  answer-cases : {answer : Answer} (v : ℤ) (Sought : ℤ → Type 0) (None : Type 0) → answer ≡ deliveredZ f v → WideZ (f .base) (f .digits) v → Sought v → (greatest f < natAbs v → None)
+      → ((y : Number) × (answer ≡ Value y) × Member f y × Sought (value f y)) ⊎ ((answer ≡ Refused TooLarge) × None)
+  answer-cases v Sought None e w s n =
+      ⊎-elim (λ g. inl (g .0, e ∙ g .1 .is, g .1 .number, subst Sought (sym (g .1 .same)) s)) (λ r. inr (e ∙ r .0, n (r .1))) (delivered-cases v w)
+
+  -- a value between two numbers of the format
+  between : {y z : Number} (v : ℤ) → Member f y → Member f z → value f y ≤ℤ v → v ≤ℤ value f z → natAbs v ≤ greatest f
+  between {y} {z} v i j l m =
+      omega (arith, le-parts l, le-parts m, size-parts v, size-parts (value f y), size-parts (value f z), size-greatest i, size-greatest j, apart v, apart (value f y), apart (value f z))
+
   -- ---- the call on a number of the format
   module _ {x : Number} (i : Member f x) where
     pub predecessor-cases : ((y : Number) × (predecessorOf f x ≡ Value y) × GreatestNumberBelow f x y)
         ⊎ ((predecessorOf f x ≡ Refused TooLarge) × ((z : Number) → Member f z → value f x ≤ℤ value f z))
     unfolding predecessorOf
-    predecessor-cases = ⊎-elim (λ g. inl (given (g .0) (g .1))) (λ r. inr (checked a i ∙ r .0, λ z j. none z j (r .1))) (delivered-cases v (b .number))
-      where
-        v : ℤ
-        v = predecessor (f .base) (f .digits) (value f x)
-
-        b : GreatestBelow (f .base) (f .digits) (value f x) v
-        b = predecessor-below (positional a) (value f x)
-
-        given : (y : Number) → Given v y → (y : Number) × (after (entry f [] (x ∷ [])) Refused (deliveredZ f v) ≡ Value y) × GreatestNumberBelow f x y
-        given y g = (
-          y,
-          checked a i ∙ g .is,
-          record {
-            number = g .number;
-            below = subst (λ (u : ℤ). u <ℤ value f x) (sym (g .same)) (b .below);
-            greatest = λ z j l. subst (λ (u : ℤ). value f z ≤ℤ u) (sym (g .same)) (b .greatest (value f z) (wide-value j) l);
-          },
-        )
-
-        -- v lies beyond the least number
-        none : (z : Number) → Member f z → greatest f < natAbs v → value f x ≤ℤ value f z
-        none z j h = not-less (λ (l : value f z <ℤ value f x). omega (arith, le-parts (b .greatest (value f z) (wide-value j) l), lt-parts (b .below), size-parts v, size-parts (value f z), size-parts (value f x), size-greatest j, size-greatest i, apart v, apart (value f z), apart (value f x)))
+    predecessor-cases =
+        let v : ℤ = predecessor (f .base) (f .digits) (value f x) in
+        let b = predecessor-below (positional a) (value f x) in
+        ⊎-elim
+        (λ g. inl (g .0, g .1, record { number = g .2; below = g .3 .below; greatest = λ z j l. g .3 .greatest (value f z) (wide-value j) l })) inr
+        (answer-cases v (GreatestBelow (f .base) (f .digits) (value f x)) ((z : Number) → Member f z → value f x ≤ℤ value f z) (checked a i) (b .number) b
+        (λ h z j. not-less (λ l. omega (arith, between v j i (b .greatest (value f z) (wide-value j) l) (less (b .below))))))
 
     pub successor-cases : ((y : Number) × (successorOf f x ≡ Value y) × LeastNumberAbove f x y)
         ⊎ ((successorOf f x ≡ Refused TooLarge) × ((z : Number) → Member f z → value f z ≤ℤ value f x))
     unfolding successorOf
-    successor-cases = ⊎-elim (λ g. inl (given (g .0) (g .1))) (λ r. inr (checked a i ∙ r .0, λ z j. none z j (r .1))) (delivered-cases v (b .number))
-      where
-        v : ℤ
-        v = successor (f .base) (f .digits) (value f x)
-
-        b : LeastAbove (f .base) (f .digits) (value f x) v
-        b = successor-above (positional a) (value f x)
-
-        given : (y : Number) → Given v y → (y : Number) × (after (entry f [] (x ∷ [])) Refused (deliveredZ f v) ≡ Value y) × LeastNumberAbove f x y
-        given y g = (
-          y,
-          checked a i ∙ g .is,
-          record {
-            number = g .number;
-            above = subst (λ (u : ℤ). value f x <ℤ u) (sym (g .same)) (b .above);
-            least = λ z j l. subst (λ (u : ℤ). u ≤ℤ value f z) (sym (g .same)) (b .least (value f z) (wide-value j) l);
-          },
-        )
-
-        none : (z : Number) → Member f z → greatest f < natAbs v → value f z ≤ℤ value f x
-        none z j h = not-less (λ (l : value f x <ℤ value f z). omega (arith, le-parts (b .least (value f z) (wide-value j) l), lt-parts (b .above), size-parts v, size-parts (value f z), size-parts (value f x), size-greatest j, size-greatest i, apart v, apart (value f z), apart (value f x)))
+    successor-cases =
+        let v : ℤ = successor (f .base) (f .digits) (value f x) in
+        let b = successor-above (positional a) (value f x) in
+        ⊎-elim
+        (λ g. inl (g .0, g .1, record { number = g .2; above = g .3 .above; least = λ z j l. g .3 .least (value f z) (wide-value j) l })) inr
+        (answer-cases v (LeastAbove (f .base) (f .digits) (value f x)) ((z : Number) → Member f z → value f z ≤ℤ value f x) (checked a i) (b .number) b
+        (λ h z j. not-less (λ l. omega (arith, between v i j (less (b .above)) (b .least (value f z) (wide-value j) l)))))
 
   -- ---- there is one such number
   below-unique : {x y z : Number} → GreatestNumberBelow f x y → GreatestNumberBelow f x z → y ≡ z

@@ -2,6 +2,7 @@
 use Prim.Native.Nat.{ℕ, zero, suc, _*_, _-_, _^_, _≤_}
 use mathlib.Core.Path.{_≡_, refl, sym, ap, _∙_}
 use mathlib.Core.Bool.{Bool, true, false}
+use mathlib.Core.List.{[], _∷_}
 use mathlib.Core.Logic.{_⊎_, inl, inr}
 use native.Mathlib.Nat.{zero-mul, mul-pos}
 use native.Mathlib.Omega.{arith}
@@ -14,15 +15,20 @@ use Rattle.theory.proofs.Tests.{never}
 use Rattle.theory.proofs.Powers.{pow-pos}
 use Rattle.theory.proofs.Faithful.{predecessor-pos, predecessor-neg, successor-pos, successor-neg}
 use Rattle.format.specs.declared.Format.{Format}
+use Rattle.format.specs.declared.Prepared.{Prepared}
+use Rattle.format.specs.declared.Preparation.the-variants.{Ready}
 use Rattle.format.specs.declared.Refusal.the-variants.{TooLarge}
 use Rattle.format.proofs.Formats.{Admitted, positional}
 use Rattle.number.specs.declared.Number.{Number}
+use Rattle.number.specs.declared.Answer.{Answer}
 use Rattle.number.specs.declared.Answer.the-variants.{Value, Refused}
 use Rattle.number.specs.Numbers.{placeOf, magnitude, value, greatest, number, delivered}
-use Rattle.number.proofs.Membership.{Member}
+use Rattle.number.specs.Entry.{entered}
+use Rattle.number.proofs.Membership.{Member, members, known}
 use Rattle.number.proofs.Values.{number-same}
 use Rattle.number.proofs.Comparison.{negative-size}
-use Rattle.units.specs.Neighbours.{deliveredZ}
+use Rattle.units.specs.Neighbours.{deliveredZ, predecessorOf, successorOf}
+use Rattle.units.proofs.Entered.{inside, answered}
 
 -- a sign and a magnitude, or their value
 pub delivered-signed : (f : Format) (s : Bool) (n : ℕ) → delivered f s n ≡ deliveredZ f (signed s n)
@@ -47,27 +53,27 @@ module _ {f : Format} {x : Number} (a : Admitted f) (i : Member f x) where
   unfolding value
   not-below e = ap (λ (s : Bool). signed s (magnitude f x)) e
 
-  pub some-size : 1 ≤ x .significand → 1 ≤ magnitude f x
+  some-size : 1 ≤ x .significand → 1 ≤ magnitude f x
   unfolding magnitude
   some-size h = mul-pos h (pow-pos (a .base-low) (placeOf f x))
 
-  pub predecessor-away : (x .negative ≡ true) ⊎ (x .significand ≡ 0)
+  predecessor-away : (x .negative ≡ true) ⊎ (x .significand ≡ 0)
       → delivered f true (upper (f .base) (f .digits) (suc (magnitude f x))) ≡ deliveredZ f (predecessor (f .base) (f .digits) (value f x))
   predecessor-away e =
       delivered-signed f true (upper (f .base) (f .digits) (suc (magnitude f x)))
       ∙ ap (deliveredZ f) (sym (ap (predecessor (f .base) (f .digits)) (not-above e) ∙ predecessor-neg (positional a) (magnitude f x)))
 
-  pub predecessor-toward : x .negative ≡ false → 1 ≤ magnitude f x
+  predecessor-toward : x .negative ≡ false → 1 ≤ magnitude f x
       → delivered f false (lower (f .base) (f .digits) (magnitude f x - 1)) ≡ deliveredZ f (predecessor (f .base) (f .digits) (value f x))
   predecessor-toward e h =
       ap (λ (v : ℤ). deliveredZ f v) (sym (ap (predecessor (f .base) (f .digits)) (not-below e ∙ ap pos (omega arith)) ∙ predecessor-pos (positional a) (magnitude f x - 1)))
 
-  pub successor-away : x .negative ≡ false
+  successor-away : x .negative ≡ false
       → delivered f false (upper (f .base) (f .digits) (suc (magnitude f x))) ≡ deliveredZ f (successor (f .base) (f .digits) (value f x))
   successor-away e =
       ap (λ (v : ℤ). deliveredZ f v) (sym (ap (successor (f .base) (f .digits)) (not-below e) ∙ successor-pos (positional a) (magnitude f x)))
 
-  pub successor-toward : x .negative ≡ true
+  successor-toward : x .negative ≡ true
       → delivered f true (lower (f .base) (f .digits) (magnitude f x - 1)) ≡ deliveredZ f (successor (f .base) (f .digits) (value f x))
   successor-toward e =
       delivered-signed f true (lower (f .base) (f .digits) (magnitude f x - 1))
@@ -78,6 +84,39 @@ module _ {f : Format} {x : Number} (a : Admitted f) (i : Member f x) where
       below zero h = absurd (omega arith)
       below (suc n) h = ap negsuc (omega arith)
 
+-- ---- what the calls answer after the check, by what away and toward answer
+module _ (f : Format) (x : Number) {q : Prepared} (h : entered f [] (x ∷ []) ≡ Ready q) where
+  admits : Admitted (q .format)
+  admits = known (inside f x h .0) .admits
+
+  inner : Member (q .format) x
+  inner = members x admits (inside f x h .1)
+
   -- a number below zero has digits
   pub negative-digits : x .negative ≡ true → 1 ≤ x .significand
-  negative-digits h = let some : (x .significand ≡ 0 → ⊥) = λ z. never (sym h ∙ i .zero-sign z) in omega arith
+  negative-digits e = let some : (x .significand ≡ 0 → ⊥) = λ z. never (sym e ∙ inner .zero-sign z) in omega arith
+
+  module _ {r : Answer} where
+    predecessor-is : r ≡ deliveredZ (q .format) (predecessor (q .format .base) (q .format .digits) (value (q .format) x)) → r ≡ predecessorOf f x
+    unfolding predecessorOf
+    predecessor-is e = e ∙ answered f x (λ (g : Format). deliveredZ g (predecessor (g .base) (g .digits) (value g x))) h
+
+    pub away-below : (x .negative ≡ true) ⊎ (x .significand ≡ 0)
+        → r ≡ delivered (q .format) true (upper (q .format .base) (q .format .digits) (suc (magnitude (q .format) x))) → r ≡ predecessorOf f x
+    away-below c e = predecessor-is (e ∙ predecessor-away admits inner c)
+
+    pub toward-below : x .negative ≡ false → 1 ≤ x .significand
+        → r ≡ delivered (q .format) false (lower (q .format .base) (q .format .digits) (magnitude (q .format) x - 1)) → r ≡ predecessorOf f x
+    toward-below n some e = predecessor-is (e ∙ predecessor-toward admits inner n (some-size admits inner some))
+
+    successor-is : r ≡ deliveredZ (q .format) (successor (q .format .base) (q .format .digits) (value (q .format) x)) → r ≡ successorOf f x
+    unfolding successorOf
+    successor-is e = e ∙ answered f x (λ (g : Format). deliveredZ g (successor (g .base) (g .digits) (value g x))) h
+
+    pub away-above : x .negative ≡ false
+        → r ≡ delivered (q .format) false (upper (q .format .base) (q .format .digits) (suc (magnitude (q .format) x))) → r ≡ successorOf f x
+    away-above n e = successor-is (e ∙ successor-away admits inner n)
+
+    pub toward-above : x .negative ≡ true
+        → r ≡ delivered (q .format) true (lower (q .format .base) (q .format .digits) (magnitude (q .format) x - 1)) → r ≡ successorOf f x
+    toward-above n e = successor-is (e ∙ successor-toward admits inner n)

@@ -8,6 +8,8 @@ use Rattle.number.specs.declared.Answer.{Answer}
 use Rattle.number.specs.declared.Answer.the-variants.{Value, Refused}
 use Rattle.number.specs.Numbers.{magnitude, number}
 use Rattle.number.specs.Entry.{entry, after}
+use Rattle.units.specs.declared.places.Place.{Place}
+use Rattle.units.specs.declared.places.Place.the-variants.{First, Last, Least}
 
 -- ufp(x), the first place
 unfoldable pub firstPlace : Format → Number → Answer
@@ -20,3 +22,14 @@ lastPlace f x = after (entry f [] (x ∷ [])) Refused (Value (number f false (ul
 -- uls(x), the place of the least nonzero digit
 unfoldable pub leastPlace : Format → Number → Answer
 leastPlace f x = after (entry f [] (x ∷ [])) Refused (Value (number f false (uls (f .base) (magnitude f x))))
+
+-- the code's places: the number of one, and the answer of its call
+abbrev pub placeNumber : Place → Format → Number → Number
+placeNumber First f x = number f false (ufp (f .base) (magnitude f x))
+placeNumber Last f x = number f false (ulp (f .base) (f .digits) (magnitude f x))
+placeNumber Least f x = number f false (uls (f .base) (magnitude f x))
+
+abbrev pub placeAnswer : Place → Format → Number → Answer
+placeAnswer First f x = firstPlace f x
+placeAnswer Last f x = lastPlace f x
+placeAnswer Least f x = leastPlace f x

@@ -10,15 +10,20 @@ use number::Number;
 use number::entry::enter;
 use number::exponents::place_of;
 ghost use mathlib.Core.Path.{_≡_};
-ghost use mathlib.Core.Bool.{true, false};
-ghost use Rattle.theory.specs.Units as theory;
+ghost use mathlib.Core.Bool.{true};
 ghost use Rattle.number.specs.Entry.{Usable};
-ghost use Rattle.number.specs.Numbers.{member, magnitude, number};
-ghost use Rattle.units.specs.Places.{firstPlace, lastPlace, leastPlace};
+ghost use Rattle.number.specs.Numbers.{member};
+ghost use Rattle.units.specs.Places.{firstPlace, lastPlace, leastPlace, placeNumber, placeAnswer};
+
+enum Place {
+    First,
+    Last,
+    Least,
+}
 
 fn first_place(prepared: Prepared, x: Number) -> Number
     requires { ⌜ Usable prepared × (member (prepared .format) x ≡ true) ⌝ }
-    ensures { λ r. ⌜ r ≡ number (prepared .format) false (theory.ufp (prepared .format .base) (magnitude (prepared .format) x)) ⌝ }
+    ensures { λ r. ⌜ r ≡ placeNumber Place.First (prepared .format) x ⌝ }
 {
     let exponent = x.exponent;
     Number {
@@ -30,7 +35,7 @@ fn first_place(prepared: Prepared, x: Number) -> Number
 
 fn last_place(prepared: Prepared, x: Number) -> Number
     requires { ⌜ Usable prepared × (member (prepared .format) x ≡ true) ⌝ }
-    ensures { λ r. ⌜ r ≡ number (prepared .format) false (theory.ulp (prepared .format .base) (prepared .format .digits) (magnitude (prepared .format) x)) ⌝ }
+    ensures { λ r. ⌜ r ≡ placeNumber Place.Last (prepared .format) x ⌝ }
 {
     if x.significand == 0 {
         return x;
@@ -40,7 +45,7 @@ fn last_place(prepared: Prepared, x: Number) -> Number
 
 fn least_place(prepared: Prepared, x: Number) -> Number
     requires { ⌜ Usable prepared × (member (prepared .format) x ≡ true) ⌝ }
-    ensures { λ r. ⌜ r ≡ number (prepared .format) false (theory.uls (prepared .format .base) (magnitude (prepared .format) x)) ⌝ }
+    ensures { λ r. ⌜ r ≡ placeNumber Place.Least (prepared .format) x ⌝ }
 {
     if x.significand == 0 {
         return x;
@@ -52,32 +57,44 @@ fn least_place(prepared: Prepared, x: Number) -> Number
     )
 }
 
+fn place_number(place: Place, prepared: Prepared, x: Number) -> Number
+    requires { ⌜ Usable prepared × (member (prepared .format) x ≡ true) ⌝ }
+    ensures { λ r. ⌜ r ≡ placeNumber place (prepared .format) x ⌝ }
+{
+    match place {
+        Place::First => first_place(prepared, x),
+        Place::Last => last_place(prepared, x),
+        Place::Least => least_place(prepared, x),
+    }
+}
+
+// The place after the checks. Refuses 1, 3.
+fn answer_place(place: Place, format: Format, x: Number) -> Answer
+    ensures { λ r. ⌜ r ≡ placeAnswer place format x ⌝ }
+{
+    match enter(format, x) {
+        Preparation::Refused(why) => Answer::Refused(why),
+        Preparation::Ready(prepared) => Answer::Value(place_number(place, prepared, x)),
+    }
+}
+
 // ufp(x), the greatest power of the base not above |x|. Refuses 1, 3.
 pub fn ufp(format: Format, x: Number) -> Answer
     ensures { λ r. ⌜ r ≡ firstPlace format x ⌝ }
 {
-    match enter(format, x) {
-        Preparation::Refused(why) => Answer::Refused(why),
-        Preparation::Ready(prepared) => Answer::Value(first_place(prepared, x)),
-    }
+    answer_place(Place::First, format, x)
 }
 
 // ulp(x), base^e. Refuses 1, 3.
 pub fn ulp(format: Format, x: Number) -> Answer
     ensures { λ r. ⌜ r ≡ lastPlace format x ⌝ }
 {
-    match enter(format, x) {
-        Preparation::Refused(why) => Answer::Refused(why),
-        Preparation::Ready(prepared) => Answer::Value(last_place(prepared, x)),
-    }
+    answer_place(Place::Last, format, x)
 }
 
 // uls(x), the place of the least nonzero digit. Refuses 1, 3.
 pub fn uls(format: Format, x: Number) -> Answer
     ensures { λ r. ⌜ r ≡ leastPlace format x ⌝ }
 {
-    match enter(format, x) {
-        Preparation::Refused(why) => Answer::Refused(why),
-        Preparation::Ready(prepared) => Answer::Value(least_place(prepared, x)),
-    }
+    answer_place(Place::Least, format, x)
 }

@@ -17,13 +17,13 @@ use Rattle.units.proofs.Forms.{power-low, power-high, power-split}
 use Rattle.units.proofs.powers_of_base.power_number.Statement.{statement}
 use Rattle.units.proofs.powers_of_base.power_number.Tie as tie
 
-within : (s : Scale) → Scaled s → {k : ℕ} → k < s .digits → s .base ^ k ≤ greatestPower
-within s h {k} l = omega (arith, pow-mono (h .base-least) {i = k} {j = s .digits} (omega arith), h .top-power, h .top-most)
+within : (s : Scale) → Scaled s → (k : ℕ) → k < s .digits → s .base ^ k ≤ greatestPower
+within s h k l = omega (arith, pow-mono (h .base-least) {i = k} {j = s .digits} (omega arith), h .top-power, h .top-most)
 
 power-requires : tie.Need-power-requires
 power-requires c κs =
     let h = usable-scaled (c .before .pre .0) in
-    (h .base-least, h .base-most, within (c .before .args .prepared .scale) h (c .if1 .taken))
+    (h .base-least, h .base-most, within (c .before .args .prepared .scale) h _ (omega (arith, c .if1 .taken)))
 
 -- the table's power, in the format's base
 low : (c : tie.After-power) → c .power .result ≡ c .before .before .args .prepared .format .base ^ c .before .before .args .k

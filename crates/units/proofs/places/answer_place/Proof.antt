@@ -1,0 +1,51 @@
+-- `units::places::answer_place` meets its contract.
+use borrow.Author.Needs.{needs}
+use mathlib.Core.Path.{_≡_, refl, sym, ap, _∙_}
+use mathlib.Core.List.{[], _∷_}
+use Rattle.format.specs.declared.Format.{Format}
+use Rattle.number.specs.declared.Number.{Number}
+use Rattle.number.specs.declared.Answer.the-variants.{Value, Refused}
+use Rattle.number.specs.Entry.{entry, after}
+use Rattle.number.proofs.Entries.{ends}
+use Rattle.units.specs.declared.places.Place.{Place}
+use Rattle.units.specs.declared.places.Place.the-variants.{First, Last, Least}
+use Rattle.units.specs.Places.{firstPlace, lastPlace, leastPlace, placeNumber, placeAnswer}
+use Rattle.units.proofs.Entered.{inside, answered}
+use Rattle.units.proofs.places.answer_place.Statement.{statement}
+use Rattle.units.proofs.places.answer_place.Tie as tie
+
+-- the number after the checks
+by-number : (p : Place) (f : Format) (x : Number) → after (entry f [] (x ∷ [])) Refused (Value (placeNumber p f x)) ≡ placeAnswer p f x
+unfolding firstPlace lastPlace leastPlace
+by-number First f x = refl
+by-number Last f x = refl
+by-number Least f x = refl
+
+enter-requires : tie.Need-enter-requires
+enter-requires c κs = search needs
+
+enum-known-why : tie.Need-enum-known-why
+enum-known-why c = search needs
+
+enum-known-prepared : tie.Need-enum-known-prepared
+enum-known-prepared c = search needs
+
+place-number-requires : tie.Need-place-number-requires
+place-number-requires c κs = inside _ _ (sym (c .before .before .before .enter .ensures) ∙ c .before .prepared .given .1)
+
+returns : tie.Need-returns
+returns c =
+    let e = c .before .before .before in
+    ends _ _ _ _ _ (sym (e .enter .ensures) ∙ c .before .why .given .1) ∙ by-number (e .before .args .place) _ _
+
+returns-2 : tie.Need-returns-2
+returns-2 c =
+    let k = c .before .before in
+    let e = k .before .before in
+    let s = e .before .args in
+    ap Value (c .place-number .ensures) ∙ answered _ _ (λ (g : Format). Value (placeNumber (s .place) g (s .x))) (sym (e .enter .ensures) ∙ k .prepared .given .1)
+    ∙ by-number (s .place) _ _
+
+pub answer-place-spec : {M : Type 1} → statement M
+answer-place-spec =
+    tie.close (tie.spec enter-requires enum-known-why enum-known-prepared place-number-requires returns returns-2)
