@@ -37,23 +37,23 @@ static uint64_t operation_pass(const void *what) {
     return used;
 }
 
-/* The calls of one number; check_format and check_number show what the entry checks cost. */
-static uint64_t ufp_pass(const void *what) {
-    const setting *in = what;
+/* A call of one number, and the numbers that it is given. */
+typedef zurkeb_number_answer (*number_call)(zurkeb_format, zurkeb_number);
+
+typedef struct number_work {
+    number_call call;
+    const setting *in;
+} number_work;
+
+static uint64_t number_pass(const void *what) {
+    const number_work *w = what;
     uint64_t used = 0;
     for (int i = 0; i < PAIRS; i++)
-        used ^= used_number(zurkeb_ufp(in->format, in->pairs[i].a));
+        used ^= used_number(w->call(w->in->format, w->in->pairs[i].a));
     return used;
 }
 
-static uint64_t successor_pass(const void *what) {
-    const setting *in = what;
-    uint64_t used = 0;
-    for (int i = 0; i < PAIRS; i++)
-        used ^= used_number(zurkeb_successor(in->format, in->pairs[i].a));
-    return used;
-}
-
+/* What the entry checks of a call with one number cost. */
 static uint64_t check_number_pass(const void *what) {
     const setting *in = what;
     uint64_t used = 0;
@@ -101,14 +101,38 @@ static void all_formats(const setting *settings, int count) {
     for (int s = 0; s < count; s++) {
         const setting *in = &settings[s];
         our_work sum = {SUM, in}, product = {PRODUCT, in}, quotient = {QUOTIENT, in};
+        number_work ufp = {zurkeb_ufp, in}, successor = {zurkeb_successor, in};
         work works[6] = {{operation_pass, &sum}, {operation_pass, &product}, {operation_pass, &quotient},
-                         {ufp_pass, in},         {successor_pass, in},       {check_number_pass, in}};
+                         {number_pass, &ufp},    {number_pass, &successor},  {check_number_pass, in}};
         timed t[6];
         time_works(works, t, 6, PAIRS);
         printf("| %s |", in->name);
         for (int w = 0; w < 6; w++)
             printf(" %.1f |", t[w].best);
         printf("\n");
+    }
+}
+
+/* Rump's routes beside the places that they lead to. */
+static void routes(const setting *in) {
+    static const number_call calls[6] = {zurkeb_ufp,        zurkeb_ufp_toward_zero, zurkeb_ulp,
+                                         zurkeb_ulp_upward, zurkeb_ulp_toward_zero, zurkeb_ulp_toward_zero_unbranched};
+    static const char *const names[6] = {"ufp",        "ufp_toward_zero", "ulp",
+                                         "ulp_upward", "ulp_toward_zero", "ulp_toward_zero_unbranched"};
+    number_work numbers[6];
+    work works[6];
+    timed t[6];
+    for (int w = 0; w < 6; w++) {
+        numbers[w] = (number_work){calls[w], in};
+        works[w] = (work){number_pass, &numbers[w]};
+    }
+    time_works(works, t, 6, PAIRS);
+    printf("\n| %s | ns | median | refused |\n|---|---|---|---|\n", in->name);
+    for (int w = 0; w < 6; w++) {
+        unsigned refused = 0;
+        for (int i = 0; i < PAIRS; i++)
+            refused += calls[w](in->format, in->pairs[i].a).refusal != 0;
+        printf("| %s | %.1f | %.1f | %u |\n", names[w], t[w].best, t[w].median, refused);
     }
 }
 
@@ -233,6 +257,7 @@ int main(void) {
     against_peer(&mpfr_peer, &settings[0]);
     against_peer(&intel_peer, &settings[1]);
     all_formats(settings, count);
+    routes(&settings[0]);
     three_steps(&settings[0]);
     all_patterns(&settings[0]);
     if (!time_programs())
