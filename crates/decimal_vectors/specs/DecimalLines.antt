@@ -1,11 +1,10 @@
 -- Lines of numbers: `op base digits emin emax direction s m e -> answer`, with a second `s m e` where the call takes two. The answer is
 -- `n s m e`, `r` and the refusal's number, or for a comparison `c` and -1, 0 or 1.
 use Prim.Native.Nat.{ℕ, _+_}
-use mathlib.Core.Bool.{Bool, false, not, xor, cond}
+use mathlib.Core.Bool.{Bool, false, _&&_, _||_, Bool·beq}
 use mathlib.Core.List.{List}
 use lib.Dec.{eqb, leb}
 use lib.IntN.{ℤ, pos, negsuc}
-use Rattle.theory.specs.Tests.{_and_, unless}
 use Rattle.format.specs.declared.Format.{Format}
 use Rattle.format.specs.Refusals.{refusalNumber}
 use Rattle.number.specs.declared.Number.{Number}
@@ -18,102 +17,138 @@ use Rattle.number.specs.Order.{compared}
 use Rattle.units.specs.Neighbours.{predecessorOf, successorOf}
 use Rattle.units.specs.Places.{firstPlace}
 use Rattle.prepared_arithmetic.specs.Operations.{summed, subtracted, multiplied, divided}
-use Rattle.decimal_vectors.specs.declared.Operand.{Operand}
-use Rattle.decimal_vectors.specs.declared.Operand.the-variants as operand
-use Rattle.decimal_vectors.specs.declared.Description.{Description}
-use Rattle.decimal_vectors.specs.declared.Description.the-variants as description
+use Rattle.vector_words.specs.declared.Operation.{Operation}
+use Rattle.vector_words.specs.declared.Operation.the-variants.{Sum, Difference, Product, Quotient}
+use Rattle.vector_words.specs.declared.UnaryOperation.{UnaryOperation}
+use Rattle.vector_words.specs.declared.UnaryOperation.the-variants.{Magnitude, Negation, Predecessor, Successor, FirstPlace}
+use Rattle.vector_words.specs.declared.Call.{Call}
+use Rattle.vector_words.specs.declared.Call.the-variants.{Arithmetic, Comparison, Unary, Unknown}
 use Rattle.vector_words.specs.Words.{lastWord, isWord}
-use Rattle.vector_words.specs.Numerals.{ifNatural, ifInteger, isValue, naturalAt, integerAt}
-use Rattle.vector_words.specs.Names.{arrow, sumName, diffName, prodName, quotName, cmpName, absName, negName, predName, succName, ufpName, numberMark, refusalMark, orderMark, lessText, equalText, greaterText}
+use Rattle.vector_words.specs.Numerals.{isValue, naturalAt, integerAt}
+use Rattle.vector_words.specs.Names.{arrow, numberMark, refusalMark, orderMark, lessText, equalText, greaterText}
+use Rattle.vector_words.specs.Calls.{callOf}
+use Rattle.decimal_vectors.specs.declared.Operand.{Operand}
+use Rattle.decimal_vectors.specs.declared.Description.{Description}
+use Rattle.decimal_vectors.specs.declared.Outcome.{Outcome}
+use Rattle.decimal_vectors.specs.declared.Outcome.the-variants as outcome
 
--- ---- the format and the numbers of a line
--- the format in words 1 to 4
-unfoldable pub formatAt : List ℕ → Description
-formatAt line =
-    ifNatural (naturalAt line 1) description.Malformed (λ base.
-    ifNatural (naturalAt line 2) description.Malformed (λ digits.
-    ifInteger (integerAt line 3) description.Malformed (λ emin.
-    ifInteger (integerAt line 4) description.Malformed (λ emax.
-    description.Value (record { base = base; digits = digits; emin = emin; emax = emax })))))
+-- ---- the format, the direction and the numbers of a line
+-- the format in words 1 to 4 and the direction in word 5
+unfoldable pub descriptionAt : List ℕ → Description
+descriptionAt line =
+    record {
+      valid = naturalAt line 1 .valid && naturalAt line 2 .valid && integerAt line 3 .valid && integerAt line 4 .valid && naturalAt line 5 .valid;
+      format =
+          record {
+            base = naturalAt line 1 .value;
+            digits = naturalAt line 2 .value;
+            emin = integerAt line 3 .value;
+            emax = integerAt line 4 .value;
+          };
+      direction = naturalAt line 5 .value;
+    }
 
 -- the number in words k to k + 2; its sign is 0 or 1
 unfoldable pub numberAt : List ℕ → ℕ → Operand
 numberAt line k =
-    ifNatural (naturalAt line k) operand.Malformed (λ s.
-    unless (leb s 1) operand.Malformed
-    (ifNatural (naturalAt line (k + 1)) operand.Malformed (λ m.
-    ifInteger (integerAt line (k + 2)) operand.Malformed (λ e.
-    operand.Value (record { negative = eqb s 1; significand = m; exponent = e })))))
-
--- what follows from them, or else
-unfoldable pub ifFormat : Description → (Format → Bool) → Bool
-ifFormat (description.Value f) go-on = go-on f
-ifFormat description.Malformed go-on = false
-
-unfoldable pub ifNumber : Operand → (Number → Bool) → Bool
-ifNumber (operand.Value x) go-on = go-on x
-ifNumber operand.Malformed go-on = false
+    record {
+      valid = naturalAt line k .valid && leb (naturalAt line k .value) 1 && naturalAt line (k + 1) .valid && integerAt line (k + 2) .valid;
+      number =
+          record {
+            negative = eqb (naturalAt line k .value) 1;
+            significand = naturalAt line (k + 1) .value;
+            exponent = integerAt line (k + 2) .value;
+          };
+    }
 
 -- ---- answers
+-- are two integers the same?
 unfoldable pub sameInteger : ℤ → ℤ → Bool
 sameInteger (pos m) (pos n) = eqb m n
 sameInteger (pos m) (negsuc n) = false
 sameInteger (negsuc m) (pos n) = false
 sameInteger (negsuc m) (negsuc n) = eqb m n
 
--- have two numbers the same sign, significand and exponent?
-unfoldable pub sameNumber : (x y : Number) → Bool
-sameNumber x y =
-    not (xor (x .negative) (y .negative)) and eqb (x .significand) (y .significand) and sameInteger (x .exponent) (y .exponent)
+-- is it x, with its sign, significand and exponent?
+unfoldable pub isNumber : (x : Number) → Operand → Bool
+isNumber x operand =
+    operand .valid
+    && Bool·beq (x .negative) (operand .number .negative)
+    && eqb (x .significand) (operand .number .significand)
+    && sameInteger (x .exponent) (operand .number .exponent)
 
--- are the words from k to the end `n` and this number?
-unfoldable pub numberIs : List ℕ → ℕ → Number → Bool
-numberIs line k x = isWord line k numberMark and eqb (lastWord line) (k + 3) and ifNumber (numberAt line (k + 1)) (sameNumber x)
+-- is word k this mark, and the line's last word the one with this number?
+unfoldable pub isMarked : List ℕ → (k : ℕ) → (mark : List ℕ) → (last : ℕ) → Bool
+isMarked line k mark last = isWord line k mark && eqb (lastWord line) last
 
--- are they `r` and this number?
-unfoldable pub refusalIs : List ℕ → ℕ → ℕ → Bool
-refusalIs line k n = isWord line k refusalMark and eqb (lastWord line) (k + 1) and isValue (naturalAt line (k + 1)) n
+-- is this order the one of three that is said? None is that of a refusal
+abbrev pub isOrder : Ordered → (less equal greater : Bool) → Bool
+isOrder ordered.Less less equal greater = less
+isOrder ordered.Equal less equal greater = equal
+isOrder ordered.Greater less equal greater = greater
+isOrder (ordered.Refused why) less equal greater = false
 
--- are they this answer?
-unfoldable pub hasAnswer : List ℕ → ℕ → Answer → Bool
-hasAnswer line k (answer.Value x) = numberIs line k x
-hasAnswer line k (answer.Refused why) = refusalIs line k (refusalNumber why)
+-- are the words from k to the end `c` and this order?
+unfoldable pub hasOrder : List ℕ → ℕ → Ordered → Bool
+hasOrder line k o =
+    isMarked line k orderMark (k + 1)
+    && isOrder o (isWord line (k + 1) lessText) (isWord line (k + 1) equalText) (isWord line (k + 1) greaterText)
 
--- is word 14 this order's? None is that of a refusal
-unfoldable pub orderSaid : List ℕ → Ordered → Bool
-orderSaid line ordered.Less = isWord line 14 lessText
-orderSaid line ordered.Equal = isWord line 14 equalText
-orderSaid line ordered.Greater = isWord line 14 greaterText
-orderSaid line (ordered.Refused why) = false
-
--- are the words from 13 to the end `c` and this order?
-unfoldable pub hasOrder : List ℕ → Ordered → Bool
-hasOrder line o = isWord line 13 orderMark and eqb (lastWord line) 14 and orderSaid line o
+-- are they this outcome: `n` and the number, `r` and the refusal's number, or `c` and the order?
+unfoldable pub hasOutcome : List ℕ → ℕ → Outcome → Bool
+hasOutcome line k (outcome.Number x) = isMarked line k numberMark (k + 3) && isNumber x (numberAt line (k + 1))
+hasOutcome line k (outcome.Refusal n) = isMarked line k refusalMark (k + 1) && isValue n (naturalAt line (k + 1))
+hasOutcome line k (outcome.Order o) = hasOrder line k o
+hasOutcome line k outcome.Nothing = false
 
 -- ---- calls
--- does the call that word 0 names, of one number, answer what the line has?
-unfoldable pub oneAgrees : List ℕ → Format → Number → Bool
-oneAgrees line f x =
-    cond (isWord line 0 absName) (hasAnswer line 10 (unsigned f x))
-    (cond (isWord line 0 negName) (hasAnswer line 10 (negated f x))
-    (cond (isWord line 0 predName) (hasAnswer line 10 (predecessorOf f x))
-    (cond (isWord line 0 succName) (hasAnswer line 10 (successorOf f x))
-    (cond (isWord line 0 ufpName) (hasAnswer line 10 (firstPlace f x)) false))))
+-- how an answer is written
+abbrev pub written : Answer → Outcome
+written (answer.Value x) = outcome.Number x
+written (answer.Refused why) = outcome.Refusal (refusalNumber why)
 
--- of two numbers?
-unfoldable pub twoAgree : List ℕ → Format → (d : ℕ) (a b : Number) → Bool
-twoAgree line f d a b =
-    cond (isWord line 0 sumName) (hasAnswer line 13 (summed f d a b))
-    (cond (isWord line 0 diffName) (hasAnswer line 13 (subtracted f d a b))
-    (cond (isWord line 0 prodName) (hasAnswer line 13 (multiplied f d a b))
-    (cond (isWord line 0 quotName) (hasAnswer line 13 (divided f d a b))
-    (cond (isWord line 0 cmpName) (hasOrder line (compared f a b)) false))))
+-- an operation on one number
+abbrev pub unaryAnswer : UnaryOperation → Format → Number → Answer
+unaryAnswer Magnitude f x = unsigned f x
+unaryAnswer Negation f x = negated f x
+unaryAnswer Predecessor f x = predecessorOf f x
+unaryAnswer Successor f x = successorOf f x
+unaryAnswer FirstPlace f x = firstPlace f x
+
+-- an operation of arithmetic
+abbrev pub arithmeticAnswer : Operation → Format → (d : ℕ) (a b : Number) → Answer
+arithmeticAnswer Sum f d a b = summed f d a b
+arithmeticAnswer Difference f d a b = subtracted f d a b
+arithmeticAnswer Product f d a b = multiplied f d a b
+arithmeticAnswer Quotient f d a b = divided f d a b
+
+-- what a call comes to; where it takes one number, the second does not count
+unfoldable pub outcomeOf : Call → Format → (d : ℕ) (a b : Number) → Outcome
+outcomeOf (Unary operation) f d a b = written (unaryAnswer operation f a)
+outcomeOf (Arithmetic operation) f d a b = written (arithmeticAnswer operation f d a b)
+outcomeOf Comparison f d a b = outcome.Order (compared f a b)
+outcomeOf Unknown f d a b = outcome.Nothing
+
+-- the word where the arrow stands, after the numbers that the call takes
+abbrev pub arrowWord : Call → ℕ
+arrowWord (Unary operation) = 9
+arrowWord (Arithmetic operation) = 12
+arrowWord Comparison = 12
+arrowWord Unknown = 12
+
+-- is what stands before an arrow at word k well-formed? The second number is needed where it stands before the arrow
+unfoldable pub isRead : List ℕ → ℕ → Bool
+isRead line k = descriptionAt line .valid && numberAt line 6 .valid && (numberAt line 9 .valid || eqb k 9)
+
+-- what the call of a line comes to
+unfoldable pub outcomeAt : List ℕ → Outcome
+outcomeAt line =
+    outcomeOf (callOf line) (descriptionAt line .format) (descriptionAt line .direction) (numberAt line 6 .number) (numberAt line 9 .number)
+
+-- does the line have an arrow at word k, after what the call takes, and from there the outcome?
+unfoldable pub agreesFrom : List ℕ → ℕ → Bool
+agreesFrom line k = isRead line k && isWord line k arrow && hasOutcome line (k + 1) (outcomeAt line)
 
 -- does the call of a line answer what the line has?
 unfoldable pub decimalLineAgrees : List ℕ → Bool
-decimalLineAgrees line =
-    ifFormat (formatAt line) (λ f.
-    ifNatural (naturalAt line 5) false (λ d.
-    ifNumber (numberAt line 6) (λ a.
-    cond (isWord line 9 arrow) (oneAgrees line f a)
-    (ifNumber (numberAt line 9) (λ b. isWord line 12 arrow and twoAgree line f d a b)))))
+decimalLineAgrees line = agreesFrom line (arrowWord (callOf line))

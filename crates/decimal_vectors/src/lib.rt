@@ -15,50 +15,60 @@ use number::signs::negate;
 use units::neighbours::predecessor;
 use units::neighbours::successor;
 use units::places::ufp;
-use vector_words::Integer;
-use vector_words::Natural;
+use vector_words::Call;
+use vector_words::Operation;
+use vector_words::UnaryOperation;
+use vector_words::calls::call_of;
 use vector_words::numerals::integer;
 use vector_words::numerals::natural;
+use vector_words::numerals::natural_is;
 use vector_words::words::is_word;
 use vector_words::words::last_word;
 ghost use mathlib.Core.Path.{_≡_};
 ghost use Prim.Native.Nat.{_≤_};
-ghost use Rattle.decimal_vectors.specs.DecimalLines.{formatAt, numberAt, numberIs, refusalIs, hasAnswer, hasOrder, oneAgrees, twoAgree, decimalLineAgrees};
+ghost use Rattle.decimal_vectors.specs.DecimalLines.{descriptionAt, numberAt, isNumber, isMarked, isOrder, hasOrder, hasOutcome, written, unaryAnswer, arithmeticAnswer, outcomeOf, arrowWord, decimalLineAgrees};
 
-// A number of a line.
-pub enum Operand {
-    Value(Number),
-    Malformed,
+// A number of a line; where a word of it is malformed, it counts for nothing.
+pub struct Operand {
+    pub valid: bool,
+    pub number: Number,
 }
 
-// The format of a line.
-pub enum Description {
-    Value(Format),
-    Malformed,
+// The format of a line and its direction, likewise.
+pub struct Description {
+    pub valid: bool,
+    pub format: Format,
+    pub direction: u32,
 }
 
-// The format in words 1 to 4.
-fn format_of(line: &[u8]) -> Description
-    ensures { λ r. ⌜ r ≡ formatAt (now (line .entry)) ⌝ }
+// What a call comes to: nothing where there is no such call.
+pub enum Outcome {
+    Number(Number),
+    Refusal(u32),
+    Order(Ordered),
+    Nothing,
+}
+
+// The format in words 1 to 4 and the direction in word 5.
+fn description_at(line: &[u8]) -> Description
+    ensures { λ r. ⌜ r ≡ descriptionAt (now (line .entry)) ⌝ }
 {
-    let Natural::Value(base) = natural(line, 1) else {
-        return Description::Malformed;
+    let base = natural(line, 1);
+    let digits = natural(line, 2);
+    let emin = integer(line, 3);
+    let emax = integer(line, 4);
+    let direction = natural(line, 5);
+    let format = Format {
+        base: base.value,
+        digits: digits.value,
+        emin: emin.value,
+        emax: emax.value,
     };
-    let Natural::Value(digits) = natural(line, 2) else {
-        return Description::Malformed;
-    };
-    let Integer::Value(emin) = integer(line, 3) else {
-        return Description::Malformed;
-    };
-    let Integer::Value(emax) = integer(line, 4) else {
-        return Description::Malformed;
-    };
-    Description::Value(Format {
-        base: base,
-        digits: digits,
-        emin: emin,
-        emax: emax,
-    })
+    Description {
+        valid: base.valid & digits.valid & emin.valid & emax.valid & direction.valid,
+        format: format,
+        direction: direction.value,
+    }
 }
 
 // The number in words k to k + 2. The sign is 0 or 1.
@@ -66,159 +76,156 @@ fn number_at(line: &[u8], k: usize) -> Operand
     requires { ⌜ k ≤ 16 ⌝ }
     ensures { λ r. ⌜ r ≡ numberAt (now (line .entry)) k ⌝ }
 {
-    let Natural::Value(sign) = natural(line, k) else {
-        return Operand::Malformed;
+    let sign = natural(line, k);
+    let significand = natural(line, k + 1);
+    let exponent = integer(line, k + 2);
+    let number = Number {
+        negative: sign.value == 1,
+        significand: significand.value,
+        exponent: exponent.value,
     };
-    if 1 < sign {
-        return Operand::Malformed;
-    }
-    let Natural::Value(significand) = natural(line, k + 1) else {
-        return Operand::Malformed;
-    };
-    let Integer::Value(exponent) = integer(line, k + 2) else {
-        return Operand::Malformed;
-    };
-    Operand::Value(Number {
-        negative: sign == 1,
-        significand: significand,
-        exponent: exponent,
-    })
-}
-
-// Are the words from k to the end `n` and this number?
-fn number_is(line: &[u8], k: usize, x: Number) -> bool
-    requires { ⌜ k ≤ 13 ⌝ }
-    ensures { λ r. ⌜ r ≡ numberIs (now (line .entry)) k x ⌝ }
-{
-    if !is_word(line, k, b"n") {
-        return false;
-    }
-    if last_word(line) != k + 3 {
-        return false;
-    }
-    let Operand::Value(y) = number_at(line, k + 1) else {
-        return false;
-    };
-    if x.negative != y.negative {
-        return false;
-    }
-    if x.significand != y.significand {
-        return false;
-    }
-    x.exponent == y.exponent
-}
-
-// Are the words from k to the end `r` and this number?
-fn refusal_is(line: &[u8], k: usize, refusal: u32) -> bool
-    requires { ⌜ k ≤ 13 ⌝ }
-    ensures { λ r. ⌜ r ≡ refusalIs (now (line .entry)) k refusal ⌝ }
-{
-    if !is_word(line, k, b"r") {
-        return false;
-    }
-    if last_word(line) != k + 1 {
-        return false;
-    }
-    let Natural::Value(said) = natural(line, k + 1) else {
-        return false;
-    };
-    said == refusal
-}
-
-// Are the words from k to the end this answer?
-fn agrees(line: &[u8], k: usize, answer: Answer) -> bool
-    requires { ⌜ k ≤ 13 ⌝ }
-    ensures { λ r. ⌜ r ≡ hasAnswer (now (line .entry)) k answer ⌝ }
-{
-    match answer {
-        Answer::Value(x) => number_is(line, k, x),
-        Answer::Refused(why) => refusal_is(line, k, refusal_number(why)),
+    Operand {
+        valid: sign.valid & (sign.value <= 1) & significand.valid & exponent.valid,
+        number: number,
     }
 }
 
-// Are the words from 13 to the end this answer? No comparison of the vectors is refused.
-fn order_agrees(line: &[u8], answer: Ordered) -> bool
-    ensures { λ r. ⌜ r ≡ hasOrder (now (line .entry)) answer ⌝ }
+// Is it x?
+fn is_number(operand: Operand, x: Number) -> bool
+    ensures { λ r. ⌜ r ≡ isNumber x operand ⌝ }
 {
-    if !is_word(line, 13, b"c") {
-        return false;
-    }
-    if last_word(line) != 14 {
-        return false;
-    }
-    match answer {
-        Ordered::Less => is_word(line, 14, b"-1"),
-        Ordered::Equal => is_word(line, 14, b"0"),
-        Ordered::Greater => is_word(line, 14, b"1"),
+    let y = operand.number;
+    operand.valid
+        & (x.negative == y.negative)
+        & (x.significand == y.significand)
+        & (x.exponent == y.exponent)
+}
+
+// Is word k this mark, and the line's last word the one with this number?
+fn is_marked(line: &[u8], k: usize, mark: &[u8], last: usize) -> bool
+    ensures { λ r. ⌜ r ≡ isMarked (now (line .entry)) k (now (mark .entry)) last ⌝ }
+{
+    is_word(line, k, mark) & (last_word(line) == last)
+}
+
+// Is this order the one of three that is said? None is that of a refusal.
+fn is_order(order: Ordered, less: bool, equal: bool, greater: bool) -> bool
+    ensures { λ r. ⌜ r ≡ isOrder order less equal greater ⌝ }
+{
+    match order {
+        Ordered::Less => less,
+        Ordered::Equal => equal,
+        Ordered::Greater => greater,
         Ordered::Refused(_) => false,
     }
 }
 
-// The calls that take one number.
-fn one_agrees(line: &[u8], format: Format, x: Number) -> bool
-    ensures { λ r. ⌜ r ≡ oneAgrees (now (line .entry)) format x ⌝ }
+// Are the words from k to the end `c` and this order?
+fn order_is(line: &[u8], k: usize, order: Ordered) -> bool
+    requires { ⌜ k ≤ 13 ⌝ }
+    ensures { λ r. ⌜ r ≡ hasOrder (now (line .entry)) k order ⌝ }
 {
-    if is_word(line, 0, b"abs") {
-        return agrees(line, 10, magnitude(format, x));
-    }
-    if is_word(line, 0, b"neg") {
-        return agrees(line, 10, negate(format, x));
-    }
-    if is_word(line, 0, b"pred") {
-        return agrees(line, 10, predecessor(format, x));
-    }
-    if is_word(line, 0, b"succ") {
-        return agrees(line, 10, successor(format, x));
-    }
-    if is_word(line, 0, b"ufp") {
-        return agrees(line, 10, ufp(format, x));
-    }
-    false
+    let less = is_word(line, k + 1, b"-1");
+    let equal = is_word(line, k + 1, b"0");
+    let greater = is_word(line, k + 1, b"1");
+    is_marked(line, k, b"c", k + 1) & is_order(order, less, equal, greater)
 }
 
-// The calls that take two.
-fn two_agree(line: &[u8], format: Format, direction: u32, a: Number, b: Number) -> bool
-    ensures { λ r. ⌜ r ≡ twoAgree (now (line .entry)) format direction a b ⌝ }
+// Are the words from k to the end this outcome?
+fn outcome_is(line: &[u8], k: usize, outcome: Outcome) -> bool
+    requires { ⌜ k ≤ 13 ⌝ }
+    ensures { λ r. ⌜ r ≡ hasOutcome (now (line .entry)) k outcome ⌝ }
 {
-    if is_word(line, 0, b"sum") {
-        return agrees(line, 13, sum(format, direction, a, b));
+    match outcome {
+        Outcome::Number(x) => is_marked(line, k, b"n", k + 3)
+            & is_number(number_at(line, k + 1), x),
+        Outcome::Refusal(n) => is_marked(line, k, b"r", k + 1)
+            & natural_is(natural(line, k + 1), n),
+        Outcome::Order(order) => order_is(line, k, order),
+        Outcome::Nothing => false,
     }
-    if is_word(line, 0, b"diff") {
-        return agrees(line, 13, difference(format, direction, a, b));
+}
+
+// How an answer is written.
+fn written(answer: Answer) -> Outcome
+    ensures { λ r. ⌜ r ≡ written answer ⌝ }
+{
+    match answer {
+        Answer::Value(x) => Outcome::Number(x),
+        Answer::Refused(why) => Outcome::Refusal(refusal_number(why)),
     }
-    if is_word(line, 0, b"prod") {
-        return agrees(line, 13, product(format, direction, a, b));
+}
+
+// An operation on one number.
+fn unary_answer(operation: UnaryOperation, format: Format, x: Number) -> Answer
+    ensures { λ r. ⌜ r ≡ unaryAnswer operation format x ⌝ }
+{
+    match operation {
+        UnaryOperation::Magnitude => magnitude(format, x),
+        UnaryOperation::Negation => negate(format, x),
+        UnaryOperation::Predecessor => predecessor(format, x),
+        UnaryOperation::Successor => successor(format, x),
+        UnaryOperation::FirstPlace => ufp(format, x),
     }
-    if is_word(line, 0, b"quot") {
-        return agrees(line, 13, quotient(format, direction, a, b));
+}
+
+// An operation of arithmetic.
+fn arithmetic_answer(
+    operation: Operation,
+    format: Format,
+    direction: u32,
+    a: Number,
+    b: Number,
+) -> Answer
+    ensures { λ r. ⌜ r ≡ arithmeticAnswer operation format direction a b ⌝ }
+{
+    match operation {
+        Operation::Sum => sum(format, direction, a, b),
+        Operation::Difference => difference(format, direction, a, b),
+        Operation::Product => product(format, direction, a, b),
+        Operation::Quotient => quotient(format, direction, a, b),
     }
-    if is_word(line, 0, b"cmp") {
-        return order_agrees(line, compare(format, a, b));
+}
+
+// What a call comes to; where it takes one number, the second does not count.
+fn outcome_of(call: Call, format: Format, direction: u32, a: Number, b: Number) -> Outcome
+    ensures { λ r. ⌜ r ≡ outcomeOf call format direction a b ⌝ }
+{
+    match call {
+        Call::Unary(operation) => written(unary_answer(operation, format, a)),
+        Call::Arithmetic(operation) => {
+            written(arithmetic_answer(operation, format, direction, a, b))
+        }
+        Call::Comparison => Outcome::Order(compare(format, a, b)),
+        Call::Unknown => Outcome::Nothing,
     }
-    false
+}
+
+// The word where the arrow stands, after the numbers that the call takes.
+fn arrow_word(call: Call) -> usize
+    ensures { λ r. ⌜ r ≡ arrowWord call ⌝ }
+{
+    match call {
+        Call::Unary(_) => 9,
+        Call::Arithmetic(_) => 12,
+        Call::Comparison => 12,
+        Call::Unknown => 12,
+    }
 }
 
 // Does the call of a line answer what the line says?
 pub fn line_agrees(line: &[u8]) -> bool
     ensures { λ r. ⌜ r ≡ decimalLineAgrees (now (line .entry)) ⌝ }
 {
-    let Description::Value(format) = format_of(line) else {
-        return false;
-    };
-    let Natural::Value(direction) = natural(line, 5) else {
-        return false;
-    };
-    let Operand::Value(a) = number_at(line, 6) else {
-        return false;
-    };
-    if is_word(line, 9, b"->") {
-        return one_agrees(line, format, a);
-    }
-    let Operand::Value(b) = number_at(line, 9) else {
-        return false;
-    };
-    if !is_word(line, 12, b"->") {
-        return false;
-    }
-    two_agree(line, format, direction, a, b)
+    let description = description_at(line);
+    let first = number_at(line, 6);
+    let second = number_at(line, 9);
+    let call = call_of(line);
+    let k = arrow_word(call);
+    let format = description.format;
+    let a = first.number;
+    let b = second.number;
+    let outcome = outcome_of(call, format, description.direction, a, b);
+    let read = description.valid & first.valid & (second.valid | (k == 9));
+    read & is_word(line, k, b"->") & outcome_is(line, k + 1, outcome)
 }

@@ -14,10 +14,8 @@ use Rattle.theory.proofs.Tests.{and-left, and-right, and-made, refuted}
 use Rattle.number.specs.Entry.{all}
 use Rattle.vector_words.specs.declared.Span.{Span}
 use Rattle.vector_words.specs.declared.Natural.{Natural}
-use Rattle.vector_words.specs.declared.Natural.the-variants as natural
-use Rattle.vector_words.specs.declared.Integer.the-variants as integer
 use Rattle.vector_words.specs.Words.{Spans}
-use Rattle.vector_words.specs.Numerals.{Base, ten, sixteen, digitOf, isDigit, valueFrom, isNumeral, numeral, eightDigits, withSign, signedNumeral, integerAt}
+use Rattle.vector_words.specs.Numerals.{Base, ten, sixteen, noNatural, someNatural, noInteger, digitOf, isDigit, valueFrom, isNumeral, numeral, eightDigits, withSign, signedNumeral, integerAt}
 
 -- ---- bases
 pub not-sixteen : {β : ℕ} → Base β → (β ≡ 16 → ⊥) → β ≡ 10
@@ -67,10 +65,10 @@ grows {β} base v (b ∷ bs) = omega (arith, not-less base v (digitOf b), grows 
 -- digits that follow those of v, the whole a numeral
 unfoldable pub digitsAfter : (β v : ℕ) → List ℕ → Natural
 digitsAfter β v bytes =
-    unless (all (isDigit β) bytes and ltb (valueFrom β v bytes) (2 ^ 28 * β)) natural.Malformed (natural.Value (valueFrom β v bytes))
+    unless (all (isDigit β) bytes and ltb (valueFrom β v bytes) (2 ^ 28 * β)) noNatural (someNatural (valueFrom β v bytes))
 
 module _ (β v b : ℕ) (bs : List ℕ) where
-  other-digit : β ≤ digitOf b → digitsAfter β v (b ∷ bs) ≡ natural.Malformed
+  other-digit : β ≤ digitOf b → digitsAfter β v (b ∷ bs) ≡ noNatural
   unfolding digitsAfter all _and_ unless
   other-digit h = rw (le-ltb (digitOf b) β h)
 
@@ -78,17 +76,17 @@ module _ (β v b : ℕ) (bs : List ℕ) where
   unfolding digitsAfter all _and_ valueFrom
   next-digit h = rw (lt-ltb (digitOf b) β h)
 
-  too-long : Base β → 2 ^ 28 ≤ v → digitsAfter β v (b ∷ bs) ≡ natural.Malformed
+  too-long : Base β → 2 ^ 28 ≤ v → digitsAfter β v (b ∷ bs) ≡ noNatural
   unfolding digitsAfter valueFrom _and_ unless
   too-long base h =
       let more = grows base (v * β + digitOf b) bs in
       rw (le-ltb (valueFrom β (v * β + digitOf b) bs) (2 ^ 28 * β) (omega (arith, large base v (digitOf b) h))) (by (all (isDigit β) (b ∷ bs)))
     where
-      by : (t : Bool) → unless (t and false) natural.Malformed (natural.Value (valueFrom β (v * β + digitOf b) bs)) ≡ natural.Malformed
+      by : (t : Bool) → unless (t and false) noNatural (someNatural (valueFrom β (v * β + digitOf b) bs)) ≡ noNatural
       by true = refl
       by false = refl
 
-no-digit : (β v : ℕ) → v < 2 ^ 28 * β → digitsAfter β v [] ≡ natural.Value v
+no-digit : (β v : ℕ) → v < 2 ^ 28 * β → digitsAfter β v [] ≡ someNatural v
 unfolding digitsAfter all _and_ valueFrom unless
 no-digit β v h = rw (lt-ltb v (2 ^ 28 * β) h)
 
@@ -99,7 +97,7 @@ no-bytes line start end l h = drop-of-length-le (take end line) {i = start} (ome
 pub next-byte : (line : List ℕ) (i end : ℕ) → i < end → end ≤ length line → slice i end line ≡ getD line i 0 ∷ slice (i + 1) end line
 next-byte line i end h l = rw add-one (slice-cons i end line 0 h l)
 
-pub no-numeral : (β : ℕ) → natural.Malformed ≡ numeral β []
+pub no-numeral : (β : ℕ) → noNatural ≡ numeral β []
 unfolding numeral isNumeral _and_ unless
 no-numeral β = refl
 
@@ -134,10 +132,10 @@ module _ {β : ℕ} {line : List ℕ} {start end v i : ℕ} (g : Valued β line 
     left : digitsAfter β v (slice i end line) ≡ digitsAfter β v (getD line i 0 ∷ slice (i + 1) end line)
     left = ap (digitsAfter β v) (next-byte line i end h (g .room))
 
-    pub digit-differs : β ≤ digitOf (getD line i 0) → natural.Malformed ≡ numeral β (slice start end line)
+    pub digit-differs : β ≤ digitOf (getD line i 0) → noNatural ≡ numeral β (slice start end line)
     digit-differs d = sym (left ∙ other-digit _ _ _ _ d) ∙ g .holds
 
-    pub value-large : 2 ^ 28 ≤ v → natural.Malformed ≡ numeral β (slice start end line)
+    pub value-large : 2 ^ 28 ≤ v → noNatural ≡ numeral β (slice start end line)
     value-large l = sym (left ∙ too-long _ _ _ _ (g .base) l) ∙ g .holds
 
     pub digit-taken : (s d : ℕ) → s ≡ v * β → d ≡ digitOf (getD line i 0) → v < 2 ^ 28 → d < β → Valued β line start end (s + d) (i + 1)
@@ -150,14 +148,14 @@ module _ {β : ℕ} {line : List ℕ} {start end v i : ℕ} (g : Valued β line 
           holds = rw (es, ed) (sym (left ∙ next-digit _ _ _ _ (omega (arith, ed))) ∙ g .holds);
         }
 
-  pub all-taken : i ≡ end → natural.Value v ≡ numeral β (slice start end line)
+  pub all-taken : i ≡ end → someNatural v ≡ numeral β (slice start end line)
   all-taken e =
-      let none : digitsAfter β v (slice i end line) ≡ natural.Value v = rw (e, slice-empty end line) (no-digit β v (g .small)) in
+      let none : digitsAfter β v (slice i end line) ≡ someNatural v = rw (e, slice-empty end line) (no-digit β v (g .small)) in
       sym none ∙ g .holds
 
 -- ---- eight digits
 module _ (line : List ℕ) (start end : ℕ) (l : end ≤ length line) where
-  pub not-eight : (end - start ≡ 8 → ⊥) → natural.Malformed ≡ eightDigits (slice start end line)
+  pub not-eight : (end - start ≡ 8 → ⊥) → noNatural ≡ eightDigits (slice start end line)
   unfolding eightDigits unless
   not-eight h = rw (length-slice start end line l, ne-eqb (end - start) 8 h)
 
@@ -167,7 +165,7 @@ module _ (line : List ℕ) (start end : ℕ) (l : end ≤ length line) where
 
 -- ---- a sign
 module _ {line : List ℕ} {k : ℕ} {r : Span} (g : Spans line k r) where
-  pub no-sign : r .start ≡ r .end → integer.Malformed ≡ integerAt line k
+  pub no-sign : r .start ≡ r .end → noInteger ≡ integerAt line k
   unfolding signedNumeral
   no-sign e = ap signedNumeral (sym (no-bytes line (r .start) (r .end) (g .within) (omega arith)) ∙ g .holds)
 

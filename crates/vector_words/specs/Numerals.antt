@@ -1,23 +1,34 @@
 -- Numerals of a line: decimal with or without a sign, and hexadecimal of eight digits. Letters are in lower case.
 use Prim.Native.Nat.{ℕ, _+_, _*_, _-_, _^_}
-use mathlib.Core.Bool.{Bool, true, false, cond}
+use mathlib.Core.Bool.{Bool, true, false, _&&_, cond}
 use mathlib.Core.List.{List, [], _∷_}
 use lib.Dec.{eqb, leb, ltb}
 use lib.ListN.{length}
-use lib.IntN.{ℤ}
+use lib.IntN.{ℤ, pos}
 use Rattle.theory.specs.Tests.{_and_, unless}
 use Rattle.theory.specs.Signed as theory
 use Rattle.number.specs.Entry.{all}
 use Rattle.vector_words.specs.declared.Natural.{Natural}
-use Rattle.vector_words.specs.declared.Natural.the-variants as natural
 use Rattle.vector_words.specs.declared.Integer.{Integer}
-use Rattle.vector_words.specs.declared.Integer.the-variants as integer
 use Rattle.vector_words.specs.Words.{wordAt}
 
 -- the bases of numerals
 pub data Base : ℕ → Type 0 where
   ten : Base 10
   sixteen : Base 16
+
+-- ---- a numeral with its value, or none
+abbrev pub noNatural : Natural
+noNatural = record { valid = false; value = 0 }
+
+abbrev pub someNatural : ℕ → Natural
+someNatural n = record { valid = true; value = n }
+
+abbrev pub noInteger : Integer
+noInteger = record { valid = false; value = pos 0 }
+
+abbrev pub someInteger : ℤ → Integer
+someInteger z = record { valid = true; value = z }
 
 -- ---- digits
 -- the value of a digit, 0 to 9 and a to f; 16 for a byte that is none
@@ -42,20 +53,20 @@ unfoldable pub isNumeral : (β : ℕ) → List ℕ → Bool
 isNumeral β bytes = ltb 0 (length bytes) and all (isDigit β) bytes and ltb (valueOf β bytes) (2 ^ 28 * β)
 
 unfoldable pub numeral : (β : ℕ) → List ℕ → Natural
-numeral β bytes = unless (isNumeral β bytes) natural.Malformed (natural.Value (valueOf β bytes))
+numeral β bytes = unless (isNumeral β bytes) noNatural (someNatural (valueOf β bytes))
 
 -- eight hexadecimal digits
 unfoldable pub eightDigits : List ℕ → Natural
-eightDigits bytes = unless (eqb (length bytes) 8) natural.Malformed (numeral 16 bytes)
+eightDigits bytes = unless (eqb (length bytes) 8) noNatural (numeral 16 bytes)
 
 -- a size below 2 ^ 31 with its sign
 unfoldable pub withSign : (negative : Bool) → Natural → Integer
-withSign negative (natural.Value n) = unless (ltb n (2 ^ 31)) integer.Malformed (integer.Value (theory.signed negative n))
-withSign negative natural.Malformed = integer.Malformed
+withSign negative size =
+    unless (size .valid && ltb (size .value) (2 ^ 31)) noInteger (someInteger (theory.signed negative (size .value)))
 
 -- a decimal numeral that may have a minus sign, 45
 unfoldable pub signedNumeral : List ℕ → Integer
-signedNumeral [] = integer.Malformed
+signedNumeral [] = noInteger
 signedNumeral (b ∷ bs) = cond (eqb b 45) (withSign true (numeral 10 bs)) (withSign false (numeral 10 (b ∷ bs)))
 
 -- ---- words as numerals
@@ -65,15 +76,6 @@ naturalAt line k = numeral 10 (wordAt line k)
 abbrev pub integerAt : List ℕ → ℕ → Integer
 integerAt line k = signedNumeral (wordAt line k)
 
--- ---- what follows from a numeral, or else
-unfoldable pub ifNatural : {A : Type 0} → Natural → (otherwise : A) → (ℕ → A) → A
-ifNatural (natural.Value n) otherwise go-on = go-on n
-ifNatural natural.Malformed otherwise go-on = otherwise
-
-unfoldable pub ifInteger : {A : Type 0} → Integer → (otherwise : A) → (ℤ → A) → A
-ifInteger (integer.Value z) otherwise go-on = go-on z
-ifInteger integer.Malformed otherwise go-on = otherwise
-
 -- is it n?
-abbrev pub isValue : Natural → ℕ → Bool
-isValue read n = ifNatural read false (λ m. eqb m n)
+abbrev pub isValue : (n : ℕ) → Natural → Bool
+isValue n numeral = numeral .valid && eqb (numeral .value) n

@@ -6,7 +6,18 @@ ghost use mathlib.Core.Path.{_≡_};
 ghost use Prim.Native.Nat.{_*_, _≤_, _<_};
 ghost use lib.ListN.{length};
 ghost use lib.Seq.{slice};
-ghost use Rattle.vector_words.specs.Numerals.{Base, digitOf, numeral, eightDigits, withSign, naturalAt, integerAt};
+ghost use Rattle.vector_words.specs.Numerals.{Base, digitOf, numeral, eightDigits, withSign, naturalAt, integerAt, isValue};
+
+// What is no numeral.
+const NO_NATURAL: Natural = Natural {
+    valid: false,
+    value: 0,
+};
+
+const NO_INTEGER: Integer = Integer {
+    valid: false,
+    value: 0,
+};
 
 // The value of a digit, letters in lower case; 16 for a byte that is none.
 fn digit_value(b: u8) -> u32
@@ -44,22 +55,25 @@ fn value_of(line: &[u8], start: usize, end: usize, base: u32) -> Natural
     ensures { λ r. ⌜ r ≡ numeral base (slice start end (now (line .entry))) ⌝ }
 {
     if end <= start {
-        return Natural::Malformed;
+        return NO_NATURAL;
     }
     let mut value = 0;
     let mut i = start;
     while i < end {
         let digit = digit_value(line[i]);
         if base <= digit {
-            return Natural::Malformed;
+            return NO_NATURAL;
         }
         if 268435456 <= value {
-            return Natural::Malformed;
+            return NO_NATURAL;
         }
         value = shifted(value, base) + digit;
         i += 1;
     }
-    Natural::Value(value)
+    Natural {
+        valid: true,
+        value: value,
+    }
 }
 
 // Eight hexadecimal digits.
@@ -68,7 +82,7 @@ pub fn eight_digits(line: &[u8], start: usize, end: usize) -> Natural
     ensures { λ r. ⌜ r ≡ eightDigits (slice start end (now (line .entry))) ⌝ }
 {
     if end - start != 8 {
-        return Natural::Malformed;
+        return NO_NATURAL;
     }
     value_of(line, start, end, 16)
 }
@@ -81,21 +95,32 @@ pub fn natural(line: &[u8], k: usize) -> Natural
     value_of(line, found.start, found.end, 10)
 }
 
+// Is the numeral this number?
+pub fn natural_is(numeral: Natural, n: u32) -> bool
+    ensures { λ r. ⌜ r ≡ isValue n numeral ⌝ }
+{
+    numeral.valid & (numeral.value == n)
+}
+
 // A size with its sign.
 fn signed(negative: bool, size: Natural) -> Integer
     ensures { λ r. ⌜ r ≡ withSign negative size ⌝ }
 {
-    let Natural::Value(value) = size else {
-        return Integer::Malformed;
-    };
-    if 2147483647 < value {
-        return Integer::Malformed;
+    let value = size.value;
+    if !(size.valid & (value < 2147483648)) {
+        return NO_INTEGER;
     }
     let plus = value as i32;
     if negative {
-        return Integer::Value(-plus);
+        return Integer {
+            valid: true,
+            value: -plus,
+        };
     }
-    Integer::Value(plus)
+    Integer {
+        valid: true,
+        value: plus,
+    }
 }
 
 // Word k as a decimal numeral that may have a minus sign.
@@ -106,7 +131,7 @@ pub fn integer(line: &[u8], k: usize) -> Integer
     let start = found.start;
     let end = found.end;
     if start == end {
-        return Integer::Malformed;
+        return NO_INTEGER;
     }
     if line[start] == 45 {
         return signed(true, value_of(line, start + 1, end, 10));

@@ -1,2 +1,0 @@
--- Laws of lines of patterns.
-pub mod PatternLineLaws
