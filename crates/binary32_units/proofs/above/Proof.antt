@@ -10,9 +10,6 @@ use Rattle.binary32_units.proofs.above.Tie as tie
 returns : tie.Need-returns
 returns c = no-successor _ (c .before .pre) (c .if1 .taken)
 
-add-t4 : tie.Need-add-t4
-add-t4 c = search needs
-
 returns-2 : tie.Need-returns-2
 returns-2 c = above-plus _ (c .before .before .pre) (c .if2 .taken) (c .before .if1 .left)
 
@@ -21,9 +18,6 @@ returns-3 c = above-zero _ (c .before .before .before .pre) (c .if3 .taken)
 
 returns-4 : tie.Need-returns-4
 returns-4 c = above-least _ (c .before .before .before .before .pre) (c .if4 .taken)
-
-sub-t5 : tie.Need-sub-t5
-sub-t5 c = search needs
 
 returns-5 : tie.Need-returns-5
 returns-5 c =
@@ -35,4 +29,4 @@ returns-5 c =
     above-minus n (e2 .before .before .pre) over-least (search needs)
 
 pub above-spec : {M : Type 1} → statement M
-above-spec = tie.close (tie.spec returns add-t4 returns-2 returns-3 returns-4 sub-t5 returns-5)
+above-spec = tie.close (tie.spec returns (λ c. search needs) returns-2 returns-3 returns-4 (λ c. search needs) returns-5)

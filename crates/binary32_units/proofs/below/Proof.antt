@@ -18,11 +18,8 @@ returns-2 c = below-minus _ (c .before .before .pre) (c .if2 .taken) (search nee
 returns-3 : tie.Need-returns-3
 returns-3 c = below-zero _ (c .before .before .before .pre) (c .if3 .taken)
 
-sub-t5 : tie.Need-sub-t5
-sub-t5 c = search needs
-
 returns-4 : tie.Need-returns-4
 returns-4 c = below-plus _ (c .before .before .before .pre) (c .before .if2 .left) (c .if3 .left)
 
 pub below-spec : {M : Type 1} → statement M
-below-spec = tie.close (tie.spec returns add-t4 returns-2 returns-3 sub-t5 returns-4)
+below-spec = tie.close (tie.spec returns add-t4 returns-2 returns-3 (λ c. search needs) returns-4)

@@ -11,9 +11,6 @@ use Rattle.binary32_units.proofs.PatternPlaces.{ufp-small, ufp-normal}
 use Rattle.binary32_units.proofs.first_place.Statement.{statement}
 use Rattle.binary32_units.proofs.first_place.Tie as tie
 
-prepared-binary32-requires : tie.Need-prepared-binary32-requires
-prepared-binary32-requires c κs = search needs
-
 leading-power-requires : tie.Need-leading-power-requires
 leading-power-requires c κs = rw (c .prepared-binary32 .ensures) (scaled binary32-limits, omega arith)
 
@@ -23,12 +20,9 @@ returns c =
     let n = t .before .args .pattern in
     ufp-small n (t .before .pre) _ (t .if1 .taken) (c .leading-power .ensures ∙ ap (λ (q : Prepared). ufp (q .scale .base) (n % 2 ^ 31)) (c .before .prepared-binary32 .ensures))
 
-mul-t7 : tie.Need-mul-t7
-mul-t7 c = search needs
-
 returns-2 : tie.Need-returns-2
 returns-2 c = ufp-normal _ (c .before .pre) (c .if1 .left)
 
 pub first-place-spec : {M : Type 1} → statement M
 first-place-spec =
-    tie.close (tie.spec prepared-binary32-requires leading-power-requires returns mul-t7 returns-2)
+    tie.close (tie.spec (λ c κs. search needs) leading-power-requires returns (λ c. search needs) returns-2)

@@ -24,9 +24,6 @@ returns-2 c =
     let e : 1 ≡ 2 ^ (s .args .pattern % 2 ^ 31 / 2 ^ 23 - 1) = one-unit _ (c .if2 .taken) in
     ulp-small _ (s .pre) 1 (some (c .before)) (omega arith) e
 
-sub-power : tie.Need-sub-power
-sub-power c = search needs
-
 power-requires : tie.Need-power-requires
 power-requires c κs = (omega arith, omega arith, omega (arith, pow-mono {β = 2} (omega arith) {i = c .before .before .before .args .pattern % 2 ^ 31 / 2 ^ 23 - 1} {j = 22} (omega arith)))
 
@@ -36,16 +33,10 @@ returns-3 c =
     let e1 = t .before .before in
     ulp-small _ (e1 .before .pre) _ (some e1) (t .if3 .taken) (c .power .ensures)
 
-sub-t7 : tie.Need-sub-t7
-sub-t7 c = search needs
-
-mul-t8 : tie.Need-mul-t8
-mul-t8 c = search needs
-
 returns-4 : tie.Need-returns-4
 returns-4 c = ulp-normal _ (c .before .before .before .pre) (c .if3 .left)
 
 pub last-place-spec : {M : Type 1} → statement M
 last-place-spec =
     tie.close
-    (tie.spec returns returns-2 sub-power power-requires returns-3 sub-t7 mul-t8 returns-4)
+    (tie.spec returns returns-2 (λ c. search needs) power-requires returns-3 (λ c. search needs) (λ c. search needs) returns-4)

@@ -10,18 +10,6 @@ use Rattle.c_answers.proofs.check_out.Tie as tie
 abbrev refused : ℕ → CheckAnswer
 refused n = record { refusal = n; yes = 0 }
 
-enum-told : tie.Need-enum-told
-enum-told c = search needs
-
-enum-told-2 : tie.Need-enum-told-2
-enum-told-2 c = search needs
-
-enum-known-answer : tie.Need-enum-known-answer
-enum-known-answer c = search needs
-
-refusal-number-requires : tie.Need-refusal-number-requires
-refusal-number-requires c κs = search needs
-
 returns : tie.Need-returns
 returns c = sym (ap checkOut (c .enum-told .given .1))
 
@@ -33,4 +21,4 @@ returns-3 c = ap refused (c .refusal-number .ensures) ∙ sym (ap checkOut (c .b
 
 pub check-out-spec : {M : Type 1} → statement M
 check-out-spec =
-    tie.close (tie.spec enum-told enum-told-2 enum-known-answer refusal-number-requires returns returns-2 returns-3)
+    tie.close (tie.spec (λ c. search needs) (λ c. search needs) (λ c. search needs) (λ c κs. search needs) returns returns-2 returns-3)

@@ -13,15 +13,6 @@ use Rattle.c_answers.proofs.number_out.Tie as tie
 abbrev refused : ℕ → NumberAnswer
 refused n = record { refusal = n; number = noNumber }
 
-enum-known-answer : tie.Need-enum-known-answer
-enum-known-answer c = search needs
-
-enum-known-answer-2 : tie.Need-enum-known-answer-2
-enum-known-answer-2 c = search needs
-
-refusal-number-requires : tie.Need-refusal-number-requires
-refusal-number-requires c κs = search needs
-
 e-fits : (c : tie.After-struct-told) → SFits w32 (c .before .before .answer .given .0 .0 .exponent)
 e-fits c = search needs
 
@@ -33,4 +24,4 @@ returns-2 c = ap refused (c .refusal-number .ensures) ∙ sym (ap numberOut (c .
 
 pub number-out-spec : {M : Type 1} → statement M
 number-out-spec =
-    tie.close (tie.spec enum-known-answer enum-known-answer-2 refusal-number-requires returns returns-2)
+    tie.close (tie.spec (λ c. search needs) (λ c. search needs) (λ c κs. search needs) returns returns-2)

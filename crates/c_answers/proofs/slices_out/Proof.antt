@@ -10,21 +10,6 @@ use Rattle.c_answers.proofs.slices_out.Tie as tie
 abbrev refused : (index n : ℕ) → SlicesAnswer
 refused index n = record { refusal = n; index = index }
 
-enum-told : tie.Need-enum-told
-enum-told c = search needs
-
-enum-known-answer : tie.Need-enum-known-answer
-enum-known-answer c = search needs
-
-refusal-number-requires : tie.Need-refusal-number-requires
-refusal-number-requires c κs = search needs
-
-enum-known-answer-2 : tie.Need-enum-known-answer-2
-enum-known-answer-2 c = search needs
-
-refusal-number-requires-2 : tie.Need-refusal-number-requires-2
-refusal-number-requires-2 c κs = search needs
-
 returns : tie.Need-returns
 returns c = sym (ap slicesOut (c .enum-told .given .1))
 
@@ -36,4 +21,4 @@ returns-3 c = ap (refused _) (c .refusal-number2 .ensures) ∙ sym (ap slicesOut
 
 pub slices-out-spec : {M : Type 1} → statement M
 slices-out-spec =
-    tie.close (tie.spec enum-told enum-known-answer refusal-number-requires enum-known-answer-2 refusal-number-requires-2 returns returns-2 returns-3)
+    tie.close (tie.spec (λ c. search needs) (λ c. search needs) (λ c κs. search needs) (λ c. search needs) (λ c κs. search needs) returns returns-2 returns-3)

@@ -10,15 +10,6 @@ use Rattle.c_answers.proofs.steps_out.Tie as tie
 abbrev refused : ℕ → TripleAnswer
 refused n = record { refusal = n; steps = record { x = noNumber; z = noNumber; y = noNumber } }
 
-enum-known-answer : tie.Need-enum-known-answer
-enum-known-answer c = search needs
-
-enum-known-answer-2 : tie.Need-enum-known-answer-2
-enum-known-answer-2 c = search needs
-
-refusal-number-requires : tie.Need-refusal-number-requires
-refusal-number-requires c κs = search needs
-
 returns : tie.Need-returns
 returns c = sym (ap stepsOut (c .before .answer .given .1))
 
@@ -27,4 +18,4 @@ returns-2 c = ap refused (c .refusal-number .ensures) ∙ sym (ap stepsOut (c .b
 
 pub steps-out-spec : {M : Type 1} → statement M
 steps-out-spec =
-    tie.close (tie.spec enum-known-answer enum-known-answer-2 refusal-number-requires returns returns-2)
+    tie.close (tie.spec (λ c. search needs) (λ c. search needs) (λ c κs. search needs) returns returns-2)

@@ -8,18 +8,6 @@ use Rattle.common_patterns.proofs.PatternText.{common-made}
 use Rattle.common_patterns.proofs.is_common.Statement.{statement}
 use Rattle.common_patterns.proofs.is_common.Tie as tie
 
-field-of-requires : tie.Need-field-of-requires
-field-of-requires c κs = search needs
-
-add-field : tie.Need-add-field
-add-field c = search needs
-
-low-of-requires : tie.Need-low-of-requires
-low-of-requires c κs = search needs
-
-add-low : tie.Need-add-low
-add-low c = search needs
-
 returns : tie.Need-returns
 returns c = λ e. absurd (never (sym e))
 
@@ -32,4 +20,4 @@ returns-2 c =
 
 pub is-common-spec : {M : Type 1} → statement M
 is-common-spec =
-    tie.close (tie.spec field-of-requires add-field low-of-requires add-low returns returns-2)
+    tie.close (tie.spec (λ c κs. search needs) (λ c. search needs) (λ c κs. search needs) (λ c. search needs) returns returns-2)

@@ -21,29 +21,11 @@ small field h = rw (lt-ltb field 24 h)
 normal : (field : ℕ) → 24 ≤ field → (field - 23) * 2 ^ 23 ≡ lastOf field
 normal field h = rw (le-ltb field 24 h)
 
-sub-letters-of : tie.Need-sub-letters-of
-sub-letters-of c = search needs
-
-shl-letters-of : tie.Need-shl-letters-of
-shl-letters-of c = search needs
-
-letters-of-requires : tie.Need-letters-of-requires
-letters-of-requires c κs = search needs
-
 returns : tie.Need-returns
 returns c =
     let t = c .before in
     let field = t .before .args .field in
     c .letters-of .ensures ∙ ap shownOf (power (field - 1) (omega arith) ∙ small field (t .if1 .taken))
-
-sub-letters-of-2 : tie.Need-sub-letters-of-2
-sub-letters-of-2 c = search needs
-
-mul-letters-of : tie.Need-mul-letters-of
-mul-letters-of c = search needs
-
-letters-of-requires-2 : tie.Need-letters-of-requires-2
-letters-of-requires-2 c κs = search needs
 
 returns-2 : tie.Need-returns-2
 returns-2 c = c .letters-of2 .ensures ∙ ap shownOf (normal (c .before .before .args .field) (c .before .if1 .left))
@@ -52,11 +34,11 @@ pub last-letters-spec : {M : Type 1} → statement M
 last-letters-spec =
     tie.close
     (tie.spec
-    sub-letters-of
-    shl-letters-of
-    letters-of-requires
+    (λ c. search needs)
+    (λ c. search needs)
+    (λ c κs. search needs)
     returns
-    sub-letters-of-2
-    mul-letters-of
-    letters-of-requires-2
+    (λ c. search needs)
+    (λ c. search needs)
+    (λ c κs. search needs)
     returns-2)

@@ -35,23 +35,8 @@ own c = let s = start c in digits-shown (s .args .pattern) (c .letters .ensures)
 low-of-requires : tie.Need-low-of-requires
 low-of-requires c κs = let s = c .before in omega (arith, digits-small (s .args .pattern), s .pre .1)
 
-minus-of-requires : tie.Need-minus-of-requires
-minus-of-requires c κs = search needs
-
-mul-letters-of-bytes : tie.Need-mul-letters-of-bytes
-mul-letters-of-bytes c = search needs
-
-add-letters-of-bytes : tie.Need-add-letters-of-bytes
-add-letters-of-bytes c = search needs
-
 sub-letters-of-bytes : tie.Need-sub-letters-of-bytes
 sub-letters-of-bytes c = omega (arith, low-byte (c .before), c .before .before .before .pre .2 .low)
-
-add-letters-of-bytes-2 : tie.Need-add-letters-of-bytes-2
-add-letters-of-bytes-2 c = search needs
-
-mul-letters-of-bytes-2 : tie.Need-mul-letters-of-bytes-2
-mul-letters-of-bytes-2 c = search needs
 
 sub-letters-of-bytes-2 : tie.Need-sub-letters-of-bytes-2
 sub-letters-of-bytes-2 c = omega (arith, low-byte (c .before), c .before .before .before .pre .2 .low, c .minus-of .ensures .0)
@@ -62,44 +47,14 @@ letters-of-bytes-requires c κs = let h = c .before .before .before .pre .2 in o
 letters-requires : tie.Need-letters-requires
 letters-requires c κs = let s = c .before .before .before .before in omega (arith, digits-small (s .args .pattern), s .pre .1)
 
-put-word-requires : tie.Need-put-word-requires
-put-word-requires c κs = search needs
-
 letters-requires-2 : tie.Need-letters-requires-2
 letters-requires-2 c κs = omega (arith, and-le-r (start (c .before .before .before .before .before) .args .digits) 0x0008_0f07)
-
-put-word-requires-2 : tie.Need-put-word-requires-2
-put-word-requires-2 c κs = search needs
 
 field-of-requires : tie.Need-field-of-requires
 field-of-requires c κs = let s = start (lettered c) in omega (arith, digits-small (s .args .pattern), s .pre .1)
 
 last-letters-requires : tie.Need-last-letters-requires
 last-letters-requires c κs = let h = start (lettered (c .before)) .pre .2 in omega (arith, field c, h .least, h .most)
-
-put-word-requires-3 : tie.Need-put-word-requires-3
-put-word-requires-3 c κs = search needs
-
-mul-put-word : tie.Need-mul-put-word
-mul-put-word c = search needs
-
-add-put-word : tie.Need-add-put-word
-add-put-word c = search needs
-
-put-word-requires-4 : tie.Need-put-word-requires-4
-put-word-requires-4 c κs = search needs
-
-mul-put-word-2 : tie.Need-mul-put-word-2
-mul-put-word-2 c = search needs
-
-add-put-word-2 : tie.Need-add-put-word-2
-add-put-word-2 c = search needs
-
-put-word-requires-5 : tie.Need-put-word-requires-5
-put-word-requires-5 c κs = search needs
-
-same-length : tie.Need-same-length
-same-length c = search needs
 
 returns : tie.Need-returns
 returns c =
@@ -140,26 +95,26 @@ put-common-spec =
     tie.close
     (tie.spec
     low-of-requires
-    minus-of-requires
-    mul-letters-of-bytes
-    add-letters-of-bytes
+    (λ c κs. search needs)
+    (λ c. search needs)
+    (λ c. search needs)
     sub-letters-of-bytes
-    add-letters-of-bytes-2
-    mul-letters-of-bytes-2
+    (λ c. search needs)
+    (λ c. search needs)
     sub-letters-of-bytes-2
     letters-of-bytes-requires
     letters-requires
-    put-word-requires
+    (λ c κs. search needs)
     letters-requires-2
-    put-word-requires-2
+    (λ c κs. search needs)
     field-of-requires
     last-letters-requires
-    put-word-requires-3
-    mul-put-word
-    add-put-word
-    put-word-requires-4
-    mul-put-word-2
-    add-put-word-2
-    put-word-requires-5
-    same-length
+    (λ c κs. search needs)
+    (λ c. search needs)
+    (λ c. search needs)
+    (λ c κs. search needs)
+    (λ c. search needs)
+    (λ c. search needs)
+    (λ c κs. search needs)
+    (λ c. search needs)
     returns)

@@ -5,7 +5,6 @@ use mathlib.Core.Path.{_≡_}
 use mathlib.Core.Bool.{true}
 use lib.IntN.{ℤ, pos, negsuc}
 use mir.Facts.{sfits-lit}
-use Rattle.theory.proofs.Integers.{above, below}
 use Rattle.format.specs.Formats.{exponentsAdmitted}
 use Rattle.format.proofs.Signed.{Upto, back, lt-left}
 use Rattle.format.proofs.Formats.{exponents-made}
@@ -15,12 +14,6 @@ use Rattle.edge_run.proofs.size.Tie as tie
 alone : (e : ℤ) → Upto (negsuc 1199) e → Upto e (pos 1200) → exponentsAdmitted e e ≡ true
 alone e low high = exponents-made (record { emin-low = omega arith; emin-emax = omega arith; emax-high = omega arith })
 
-returns : tie.Need-returns
-returns c = search needs
-
-returns-2 : tie.Need-returns-2
-returns-2 c = search needs
-
 below-zero-requires : tie.Need-below-zero-requires
 below-zero-requires c κs =
     let e = c .before in
@@ -29,14 +22,5 @@ below-zero-requires c κs =
     let high = lt-left (pos 1200) (s .args .exponent) (sfits-lit tt) (s .fits .exponent) (e .if2 .left) in
     rw (back (s .fits .exponent)) (alone (s .args .exponent) low high)
 
-returns-3 : tie.Need-returns-3
-returns-3 c = search needs
-
-above-zero-requires : tie.Need-above-zero-requires
-above-zero-requires c κs = search needs
-
-returns-4 : tie.Need-returns-4
-returns-4 c = search needs
-
 pub size-spec : {M : Type 1} → statement M
-size-spec = tie.close (tie.spec returns returns-2 below-zero-requires returns-3 above-zero-requires returns-4)
+size-spec = tie.close (tie.spec (λ c. search needs) (λ c. search needs) below-zero-requires (λ c. search needs) (λ c κs. search needs) (λ c. search needs))

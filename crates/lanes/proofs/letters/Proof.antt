@@ -7,12 +7,6 @@ use Rattle.lanes.proofs.LaneLaws.{letter-lanes}
 use Rattle.lanes.proofs.letters.Statement.{statement}
 use Rattle.lanes.proofs.letters.Tie as tie
 
-add-from-ten : tie.Need-add-from-ten
-add-from-ten c = search needs
-
-add-result : tie.Need-add-result
-add-result c = search needs
-
 mul-result : tie.Need-mul-result
 mul-result c = omega (arith, and-le-r ((c .args .digits + 0x0606_0606_0606_0606) / 16) 0x0101_0101_0101_0101)
 
@@ -23,4 +17,4 @@ returns : tie.Need-returns
 returns c = letter-lanes (c .args .digits)
 
 pub letters-spec : {M : Type 1} → statement M
-letters-spec = tie.close (tie.spec add-from-ten add-result mul-result add-result-2 returns)
+letters-spec = tie.close (tie.spec (λ c. search needs) (λ c. search needs) mul-result add-result-2 returns)

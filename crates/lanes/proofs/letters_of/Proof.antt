@@ -5,9 +5,6 @@ use Rattle.lanes.proofs.PatternDigits.{digits-small, digits-shown}
 use Rattle.lanes.proofs.letters_of.Statement.{statement}
 use Rattle.lanes.proofs.letters_of.Tie as tie
 
-digits-of-requires : tie.Need-digits-of-requires
-digits-of-requires c κs = search needs
-
 letters-requires : tie.Need-letters-requires
 letters-requires c κs = omega (arith, digits-small (c .before .args .pattern), c .digits-of .ensures)
 
@@ -15,4 +12,4 @@ returns : tie.Need-returns
 returns c = digits-shown (c .before .before .args .pattern) (c .letters .ensures) (c .before .digits-of .ensures)
 
 pub letters-of-spec : {M : Type 1} → statement M
-letters-of-spec = tie.close (tie.spec digits-of-requires letters-requires returns)
+letters-of-spec = tie.close (tie.spec (λ c κs. search needs) letters-requires returns)

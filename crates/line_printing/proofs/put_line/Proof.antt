@@ -9,27 +9,12 @@ use Rattle.line_printing.specs.Printing.{patternText, badLine, textOf, l
 use Rattle.line_printing.proofs.put_line.Statement.{statement}
 use Rattle.line_printing.proofs.put_line.Tie as tie
 
-put-pattern-requires : tie.Need-put-pattern-requires
-put-pattern-requires c κs = search needs
-
-same-length : tie.Need-same-length
-same-length c = search needs
-
 returns : tie.Need-returns
 unfolding textOf
 returns c =
     let p = c .before .before in
     let l = p .before .before .before .before .before .args .line in
     put-as (ap (λ (t : Bool). cond t (patternText (l .value)) badLine ++ lineFeed) (sym (eq-eqb _ _ (p .before .before .if1 .taken)))) (p .put-pattern .ensures)
-
-slice-aggregate-put-text : tie.Need-slice-aggregate-put-text
-slice-aggregate-put-text c = search needs
-
-put-text-requires : tie.Need-put-text-requires
-put-text-requires c κs = search needs
-
-same-length-2 : tie.Need-same-length-2
-same-length-2 c = search needs
 
 returns-2 : tie.Need-returns-2
 unfolding textOf
@@ -43,10 +28,10 @@ pub put-line-spec : {M : Type 1} → statement M
 put-line-spec =
     tie.close
     (tie.spec
-    put-pattern-requires
-    same-length
+    (λ c κs. search needs)
+    (λ c. search needs)
     returns
-    slice-aggregate-put-text
-    put-text-requires
-    same-length-2
+    (λ c. search needs)
+    (λ c κs. search needs)
+    (λ c. search needs)
     returns-2)

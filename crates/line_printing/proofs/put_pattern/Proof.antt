@@ -13,24 +13,6 @@ use Rattle.line_printing.specs.Printing.{spaced, fields, answeredText, p
 use Rattle.line_printing.proofs.put_pattern.Statement.{statement}
 use Rattle.line_printing.proofs.put_pattern.Tie as tie
 
-put-field-requires : tie.Need-put-field-requires
-put-field-requires c κs = search needs
-
-read-pattern-requires : tie.Need-read-pattern-requires
-read-pattern-requires c κs = search needs
-
-enum-told : tie.Need-enum-told
-enum-told c = search needs
-
-slice-aggregate-put-text : tie.Need-slice-aggregate-put-text
-slice-aggregate-put-text c = search needs
-
-put-text-requires : tie.Need-put-text-requires
-put-text-requires c κs = search needs
-
-enum-told-2 : tie.Need-enum-told-2
-enum-told-2 c = search needs
-
 -- past the match the pattern is finite
 passed : (c : tie.After-enum-told2) → finite (c .before .before .before .before .before .before .before .before .args .pattern) ≡ true
 passed c =
@@ -39,12 +21,6 @@ passed c =
 
 places-of-requires : tie.Need-places-of-requires
 places-of-requires c κs = passed (c .before)
-
-put-places-requires : tie.Need-put-places-requires
-put-places-requires c κs = search needs
-
-same-length : tie.Need-same-length
-same-length c = search needs
 
 returns : tie.Need-returns
 unfolding patternText
@@ -55,9 +31,6 @@ returns c =
     let f = r .before .before .before in
     let n = f .before .before .before .args .pattern in
     put-as (ap (λ (a : Answer). answeredText n a ++ lineFeed) (sym (sym (r .read-pattern .ensures) ∙ t .enum-told .given .1))) (put-after (f .put-field .ensures) (p .put-text .ensures))
-
-same-length-2 : tie.Need-same-length-2
-same-length-2 c = search needs
 
 returns-2 : tie.Need-returns-2
 unfolding patternText
@@ -75,15 +48,15 @@ pub put-pattern-spec : {M : Type 1} → statement M
 put-pattern-spec =
     tie.close
     (tie.spec
-    put-field-requires
-    read-pattern-requires
-    enum-told
-    slice-aggregate-put-text
-    put-text-requires
-    enum-told-2
+    (λ c κs. search needs)
+    (λ c κs. search needs)
+    (λ c. search needs)
+    (λ c. search needs)
+    (λ c κs. search needs)
+    (λ c. search needs)
     places-of-requires
-    put-places-requires
-    same-length
+    (λ c κs. search needs)
+    (λ c. search needs)
     returns
-    same-length-2
+    (λ c. search needs)
     returns-2)

@@ -41,9 +41,6 @@ third-room c =
     let p = c .before .before .before .before in
     room (field-room (p .before .before .before .before .before .before .before .args .places .below) 32) (second-room p) (c .put-field3 .ensures)
 
-put-field-requires : tie.Need-put-field-requires
-put-field-requires c κs = search needs
-
 put-field-requires-2 : tie.Need-put-field-requires-2
 put-field-requires-2 c κs = omega (arith, first-room (c .before .before .before))
 
@@ -52,9 +49,6 @@ put-field-requires-3 c κs = omega (arith, second-room (c .before .before .befor
 
 put-field-requires-4 : tie.Need-put-field-requires-4
 put-field-requires-4 c κs = omega (arith, third-room (c .before .before .before))
-
-same-length : tie.Need-same-length
-same-length c = search needs
 
 returns : tie.Need-returns
 returns c =
@@ -68,9 +62,9 @@ pub put-places-spec : {M : Type 1} → statement M
 put-places-spec =
     tie.close
     (tie.spec
-    put-field-requires
+    (λ c κs. search needs)
     put-field-requires-2
     put-field-requires-3
     put-field-requires-4
-    same-length
+    (λ c. search needs)
     returns)

@@ -4,14 +4,8 @@ use Rattle.line_reading.proofs.Digits.{digits, digit-value}
 use Rattle.line_reading.proofs.digit_value.Statement.{statement}
 use Rattle.line_reading.proofs.digit_value.Tie as tie
 
-mul-result : tie.Need-mul-result
-mul-result c = search needs
-
-add-result : tie.Need-add-result
-add-result c = search needs
-
 returns : tie.Need-returns
 returns c = digit-value (digits (c .args .b) (c .pre))
 
 pub digit-value-spec : {M : Type 1} → statement M
-digit-value-spec = tie.close (tie.spec mul-result add-result returns)
+digit-value-spec = tie.close (tie.spec (λ c. search needs) (λ c. search needs) returns)

@@ -17,12 +17,6 @@ returns-3 c = no-digit _ (λ d. bounds d .not-between (c .if3 .taken))
 returns-4 : tie.Need-returns-4
 returns-4 c = no-digit _ (λ d. omega (arith, bounds d))
 
-mul-result : tie.Need-mul-result
-mul-result c = search needs
-
-add-result : tie.Need-add-result
-add-result c = search needs
-
 returns-5 : tie.Need-returns-5
 returns-5 c =
     let e3 = c .before in
@@ -31,4 +25,4 @@ returns-5 c =
 
 pub is-digit-spec : {M : Type 1} → statement M
 is-digit-spec =
-    tie.close (tie.spec returns returns-2 returns-3 returns-4 mul-result add-result returns-5)
+    tie.close (tie.spec returns returns-2 returns-3 returns-4 (λ c. search needs) (λ c. search needs) returns-5)

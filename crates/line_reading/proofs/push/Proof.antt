@@ -15,20 +15,11 @@ returns : tie.Need-returns
 unfolding pushed
 returns c = rw (le-leb _ _ (c .if1 .taken))
 
-is-digit-requires : tie.Need-is-digit-requires
-is-digit-requires c κs = search needs
-
 returns-2 : tie.Need-returns-2
 unfolding pushed
 returns-2 c =
     let d = c .before in
     rw (lt-leb _ _ (d .before .if1 .left), denied (d .is-digit .ensures) (c .if2 .taken))
-
-add-t5 : tie.Need-add-t5
-add-t5 c = search needs
-
-mul-t7 : tie.Need-mul-t7
-mul-t7 c = search needs
 
 -- past the test
 passed : (c : tie.Else2) → isDigit (c .before .before .before .before .args .b) ≡ true
@@ -54,10 +45,10 @@ push-spec =
     tie.close
     (tie.spec
     returns
-    is-digit-requires
+    (λ c κs. search needs)
     returns-2
-    add-t5
-    mul-t7
+    (λ c. search needs)
+    (λ c. search needs)
     digit-value-requires
     add-t9
     returns-3)

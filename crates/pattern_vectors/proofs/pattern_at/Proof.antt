@@ -5,14 +5,8 @@ use Rattle.vector_words.specs.Numerals.{eightDigits}
 use Rattle.pattern_vectors.proofs.pattern_at.Statement.{statement}
 use Rattle.pattern_vectors.proofs.pattern_at.Tie as tie
 
-word-requires : tie.Need-word-requires
-word-requires c κs = search needs
-
-eight-digits-requires : tie.Need-eight-digits-requires
-eight-digits-requires c κs = search needs
-
 returns : tie.Need-returns
 returns c = c .eight-digits .ensures ∙ ap eightDigits (c .before .word .ensures .holds)
 
 pub pattern-at-spec : {M : Type 1} → statement M
-pattern-at-spec = tie.close (tie.spec word-requires eight-digits-requires returns)
+pattern-at-spec = tie.close (tie.spec (λ c κs. search needs) (λ c κs. search needs) returns)

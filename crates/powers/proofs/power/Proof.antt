@@ -27,18 +27,6 @@ first b = rw (pow-succ' b 0, pow-zero b) (omega arith)
 beyond : (k : ℕ) → ¬ (k ≡ 0) → ¬ (k ≡ 1) → ¬ (k ≡ 2) → ¬ (k ≡ 3) → 4 ≤ k
 beyond k a b c d = omega arith
 
-sub-at : tie.Need-sub-at
-sub-at c = search needs
-
-cast-at : tie.Need-cast-at
-cast-at c = search needs
-
-square-requires : tie.Need-square-requires
-square-requires c κs = search needs
-
-cube-requires : tie.Need-cube-requires
-cube-requires c κs = search needs
-
 fourth-requires : tie.Need-fourth-requires
 fourth-requires c κs = omega (arith, limited (c .before) 4 (omega arith) (c .match .keys5))
 
@@ -85,10 +73,10 @@ pub power-spec : {M : Type 1} → statement M
 power-spec =
     tie.close
     (tie.spec
-    sub-at
-    cast-at
-    square-requires
-    cube-requires
+    (λ c. search needs)
+    (λ c. search needs)
+    (λ c κs. search needs)
+    (λ c κs. search needs)
     fourth-requires
     fifth-requires
     sixth-requires

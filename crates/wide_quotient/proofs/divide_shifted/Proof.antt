@@ -17,8 +17,5 @@ divide-requires c κs =
     let p = c .pre in
     (p .0, leading-pos (p .0) (p .1), omega (arith, p .1 .most, p .0 .top-most), omega (arith, p .2))
 
-returns : tie.Need-returns
-returns c = search needs
-
 pub divide-shifted-spec : {M : Type 1} → statement M
-divide-shifted-spec = tie.close (tie.spec mul-divide divide-requires returns)
+divide-shifted-spec = tie.close (tie.spec mul-divide divide-requires (λ c. search needs))

@@ -11,9 +11,6 @@ use Rattle.wide.proofs.Quotients.{leading-pos, under-below}
 use Rattle.wide_quotient.proofs.locate_under.Statement.{statement}
 use Rattle.wide_quotient.proofs.locate_under.Tie as tie
 
-cast-locate : tie.Need-cast-locate
-cast-locate c = search needs
-
 mul-locate : tie.Need-mul-locate
 mul-locate c =
     let s = c .before .before in
@@ -38,4 +35,4 @@ returns-2 c =
     sym (under-below (s .pre .0) (s .pre .1) (s .pre .2) (s .args .e) (omega (arith, s .pre .3, c .if1 .left)))
 
 pub locate-under-spec : {M : Type 1} → statement M
-locate-under-spec = tie.close (tie.spec cast-locate mul-locate locate-requires returns returns-2)
+locate-under-spec = tie.close (tie.spec (λ c. search needs) mul-locate locate-requires returns returns-2)

@@ -17,9 +17,6 @@ digit-count-requires c κs =
 sub-shift : tie.Need-sub-shift
 sub-shift c = let p = c .before .before .pre in digits-fit (p .0) (c .before .digit-count .ensures) (p .2)
 
-power-requires : tie.Need-power-requires
-power-requires c κs = search needs
-
 made : (c : tie.After-power) → Shifted (c .before .before .before .args .scale) (c .before .before .before .args .m) (c .before .before .before .args .m * c .power .result) (c .before .before .before .args .scale .digits - c .before .before .digit-count .result)
 made c =
     let p = c .before .before .before .pre in
@@ -32,4 +29,4 @@ returns : tie.Need-returns
 returns c = made c
 
 pub normalise-spec : {M : Type 1} → statement M
-normalise-spec = tie.close (tie.spec digit-count-requires sub-shift power-requires mul-t7 returns)
+normalise-spec = tie.close (tie.spec digit-count-requires sub-shift (λ c κs. search needs) mul-t7 returns)

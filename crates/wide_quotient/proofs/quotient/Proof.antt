@@ -36,15 +36,6 @@ returns c =
     sym (ap (λ (n : ℕ). delivered (a .scale .base) (a .scale .digits) (a .direction) (xor (a .x .negative) (a .y .negative)) n (denominator s)) none
     ∙ delivered-zero (positional (s .pre .0)) (a .direction) (xor (a .x .negative) (a .y .negative)) (denominator s) (positive s))
 
-normalise-requires : tie.Need-normalise-requires
-normalise-requires c κs = search needs
-
-normalise-requires-2 : tie.Need-normalise-requires-2
-normalise-requires-2 c κs = search needs
-
-add-high : tie.Need-add-high
-add-high c = search needs
-
 abbrev start : tie.After-normalise2 → tie.Start
 start c = c .before .before .before .before
 
@@ -56,9 +47,6 @@ low-most c = let p = start c .pre in omega (arith, p .2 .place-most, p .5, c .be
 
 add-high-2 : tie.Need-add-high-2
 add-high-2 c = omega (arith, high-most (c .before .before))
-
-add-low : tie.Need-add-low
-add-low c = search needs
 
 add-low-2 : tie.Need-add-low-2
 add-low-2 c = omega (arith, low-most (c .before .before .before .before))
@@ -85,20 +73,17 @@ round-quotient-requires c κs =
     let p = start (normal c) .pre in
     (p .0, p .1, p .3, p .4, exact c)
 
-returns-2 : tie.Need-returns-2
-returns-2 c = search needs
-
 pub quotient-spec : {M : Type 1} → statement M
 quotient-spec =
     tie.close
     (tie.spec
     returns
-    normalise-requires
-    normalise-requires-2
-    add-high
+    (λ c κs. search needs)
+    (λ c κs. search needs)
+    (λ c. search needs)
     add-high-2
-    add-low
+    (λ c. search needs)
     add-low-2
     quotient-cut-requires
     round-quotient-requires
-    returns-2)
+    (λ c. search needs))

@@ -13,9 +13,6 @@ use Rattle.wide.proofs.Quotients.{Kept, kept-less, kept-more, quotient-drop, qu
 use Rattle.wide_quotient.proofs.quotient_cut.Statement.{statement}
 use Rattle.wide_quotient.proofs.quotient_cut.Tie as tie
 
-sub-digits : tie.Need-sub-digits
-sub-digits c = search needs
-
 abbrev start : tie.Joined1 → tie.Start
 start c = c .before
 
@@ -43,12 +40,6 @@ add-if2 : tie.Need-add-if2
 add-if2 c =
     let j = c .before in
     omega (arith, digits-kept j, digits-most (start j .pre .0), start j .pre .4)
-
-add-divide-shifted : tie.Need-add-divide-shifted
-add-divide-shifted c = search needs
-
-sub-divide-shifted : tie.Need-sub-divide-shifted
-sub-divide-shifted c = search needs
 
 divide-shifted-requires : tie.Need-divide-shifted-requires
 divide-shifted-requires c κs =
@@ -93,12 +84,6 @@ returns-2 c =
     ∙ ap (λ (n : ℕ). dropped n (a .b) 0) (part (c .before))
     ∙ sym (quotient-drop (p .0) (p .1) (p .2) (j .if1 .digits) (kept j) (a .high) (a .low) (a .high - a .low) 0 (omega arith) (omega arith))
 
-sub-locate-under : tie.Need-sub-locate-under
-sub-locate-under c = search needs
-
-locate-under-requires : tie.Need-locate-under-requires
-locate-under-requires c κs = search needs
-
 returns-3 : tie.Need-returns-3
 returns-3 c =
     let j = c .before .before .before .before in
@@ -112,15 +97,15 @@ pub quotient-cut-spec : {M : Type 1} → statement M
 quotient-cut-spec =
     tie.close
     (tie.spec
-    sub-digits
+    (λ c. search needs)
     add-if2
-    add-divide-shifted
-    sub-divide-shifted
+    (λ c. search needs)
+    (λ c. search needs)
     divide-shifted-requires
     returns
     power-requires
     divide-shifted-requires-2
     returns-2
-    sub-locate-under
-    locate-under-requires
+    (λ c. search needs)
+    (λ c κs. search needs)
     returns-3)

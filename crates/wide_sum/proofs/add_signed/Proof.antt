@@ -13,12 +13,6 @@ use Rattle.wide.proofs.Signs.{sum-agree, sum-differ, sum-exchanged, sub-times}
 use Rattle.wide_sum.proofs.add_signed.Statement.{statement}
 use Rattle.wide_sum.proofs.add_signed.Tie as tie
 
-add-total : tie.Need-add-total
-add-total c = search needs
-
-sub-difference : tie.Need-sub-difference
-sub-difference c = search needs
-
 adds-at : {a b c c′ : Bool} {v w n n′ : ℕ} → c ≡ c′ → n ≡ n′ → Adds a v b w c′ n′ → Adds a v b w c n
 adds-at e f h = rw (e, f) h
 
@@ -65,4 +59,4 @@ returns-2 c =
     (j .before .if1 .came)
 
 pub add-signed-spec : {M : Type 1} → statement M
-add-signed-spec = tie.close (tie.spec add-total sub-difference returns returns-2)
+add-signed-spec = tie.close (tie.spec (λ c. search needs) (λ c. search needs) returns returns-2)

@@ -11,27 +11,12 @@ use Rattle.wide.specs.Sum.{belowPower}
 use Rattle.wide_sum.proofs.below_power.Statement.{statement}
 use Rattle.wide_sum.proofs.below_power.Tie as tie
 
-add-if1 : tie.Need-add-if1
-add-if1 c = search needs
-
 returns : tie.Need-returns
 unfolding belowPower
 returns c =
     let s = c .before .before in
     let h = s .pre .0 in
     sym (located-above _ _ (omega (arith, s .pre, pow-half (h .base-least) {i = s .args .scale .digits} {j = s .args .gap - 1} (omega arith))))
-
-sub-locate : tie.Need-sub-locate
-sub-locate c = search needs
-
-cast-locate : tie.Need-cast-locate
-cast-locate c = search needs
-
-cast-locate-2 : tie.Need-cast-locate-2
-cast-locate-2 c = search needs
-
-locate-requires : tie.Need-locate-requires
-locate-requires c κs = search needs
 
 returns-2 : tie.Need-returns-2
 unfolding belowPower
@@ -44,4 +29,4 @@ returns-2 c =
 pub below-power-spec : {M : Type 1} → statement M
 below-power-spec =
     tie.close
-    (tie.spec add-if1 returns sub-locate cast-locate cast-locate-2 locate-requires returns-2)
+    (tie.spec (λ c. search needs) returns (λ c. search needs) (λ c. search needs) (λ c. search needs) (λ c κs. search needs) returns-2)

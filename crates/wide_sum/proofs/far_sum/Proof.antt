@@ -36,15 +36,6 @@ step-fits : (t : Bool) (m full : ℕ) → (t ≡ false → full < m) → boolByt
 step-fits true m full h = omega arith
 step-fits false m full h = omega (arith, h refl)
 
-sub-t14 : tie.Need-sub-t14
-sub-t14 c = search needs
-
-sub-t15 : tie.Need-sub-t15
-sub-t15 c = search needs
-
-below-power-requires : tie.Need-below-power-requires
-below-power-requires c κs = search needs
-
 returns : tie.Need-returns
 returns c =
     let t = c .before .before in
@@ -57,9 +48,6 @@ above : (c : tie.Else1) → let s = c .before .before .before .args in Bool·beq
 above c =
     let s = c .before .before .before .args in
     not-both (Bool·beq (s .x .negative) (s .y .negative)) (s .x .significand) (s .scale .full) (c .if1 .left)
-
-cast-t18 : tie.Need-cast-t18
-cast-t18 c = search needs
 
 sub-t19 : tie.Need-sub-t19
 sub-t19 c =
@@ -76,4 +64,4 @@ returns-2 c =
 
 pub far-sum-spec : {M : Type 1} → statement M
 far-sum-spec =
-    tie.close (tie.spec sub-t14 sub-t15 below-power-requires returns cast-t18 sub-t19 returns-2)
+    tie.close (tie.spec (λ c. search needs) (λ c. search needs) (λ c κs. search needs) returns (λ c. search needs) sub-t19 returns-2)

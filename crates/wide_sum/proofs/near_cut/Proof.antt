@@ -6,26 +6,11 @@ use borrow.Author.Needs.{needs}
 use Rattle.wide_sum.proofs.near_cut.Statement.{statement}
 use Rattle.wide_sum.proofs.near_cut.Tie as tie
 
-cast-if1 : tie.Need-cast-if1
-cast-if1 c = search needs
-
 mul-if1 : tie.Need-mul-if1
 mul-if1 c =
     let p = c .before .pre in
     omega (arith, mul-le-mul (unit-most (p .0) (p .1)) (full-most (p .0)), square (p .0), square-most (p .0))
 
-cut-long-requires : tie.Need-cut-long-requires
-cut-long-requires c κs = search needs
-
-returns : tie.Need-returns
-returns c = search needs
-
-cut-requires : tie.Need-cut-requires
-cut-requires c κs = search needs
-
-returns-2 : tie.Need-returns-2
-returns-2 c = search needs
-
 pub near-cut-spec : {M : Type 1} → statement M
 near-cut-spec =
-    tie.close (tie.spec cast-if1 mul-if1 cut-long-requires returns cut-requires returns-2)
+    tie.close (tie.spec (λ c. search needs) mul-if1 (λ c κs. search needs) (λ c. search needs) (λ c κs. search needs) (λ c. search needs))

@@ -7,23 +7,14 @@ use Rattle.wide.proofs.Sums.{near-most, near-below, near-sum-cut}
 use Rattle.wide_sum.proofs.near_sum.Statement.{statement}
 use Rattle.wide_sum.proofs.near_sum.Tie as tie
 
-power-requires : tie.Need-power-requires
-power-requires c κs = search needs
-
 most : (c : tie.After-power) → c .before .args .x .significand * c .power .result + c .before .args .y .significand < c .before .args .scale .top * c .before .args .scale .top
 most c = let p = c .before .pre in near-most (p .0) (p .1) (p .2) (c .before .args .gap) (p .3) (c .power .ensures) (p .4)
 
 fits : (c : tie.Start) → c .args .scale .top * c .args .scale .top < 2 ^ 63
 fits c = omega (arith, square (c .pre .0), square-most (c .pre .0))
 
-cast-high : tie.Need-cast-high
-cast-high c = search needs
-
 mul-high : tie.Need-mul-high
 mul-high c = omega (arith, most (c .before), fits (c .before .before))
-
-cast-add-signed : tie.Need-cast-add-signed
-cast-add-signed c = search needs
 
 add-signed-requires : tie.Need-add-signed-requires
 add-signed-requires c κs = omega (arith, most (c .before .before), fits (c .before .before .before))
@@ -50,10 +41,10 @@ pub near-sum-spec : {M : Type 1} → statement M
 near-sum-spec =
     tie.close
     (tie.spec
-    power-requires
-    cast-high
+    (λ c κs. search needs)
+    (λ c. search needs)
     mul-high
-    cast-add-signed
+    (λ c. search needs)
     add-signed-requires
     near-cut-requires
     returns)

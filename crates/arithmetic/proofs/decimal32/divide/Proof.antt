@@ -21,9 +21,6 @@ some c = omega (arith, c .before .if1 .left)
 returns : tie.Need-returns
 returns c = let s = c .before .before .args in sym (divisor-none decimal32 (sense (s .direction)) (s .a) (s .b) (c .if1 .taken))
 
-prepared-decimal32-requires : tie.Need-prepared-decimal32-requires
-prepared-decimal32-requires c κs = search needs
-
 wide-of-requires : tie.Need-wide-of-requires
 wide-of-requires c κs = let e = c .prepared-decimal32 .ensures in (prepared-usable e, prepared-member e _ (start c .pre .0))
 
@@ -61,7 +58,7 @@ divide-spec =
     tie.close
     (tie.spec
     returns
-    prepared-decimal32-requires
+    (λ c κs. search needs)
     wide-of-requires
     wide-of-requires-2
     quotient-requires

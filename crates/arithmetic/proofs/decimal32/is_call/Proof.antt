@@ -12,21 +12,6 @@ use Rattle.arithmetic.proofs.DecimalFormat.{decimal32-admitted}
 use Rattle.arithmetic.proofs.decimal32.is_call.Statement.{statement}
 use Rattle.arithmetic.proofs.decimal32.is_call.Tie as tie
 
-is-decimal32-requires : tie.Need-is-decimal32-requires
-is-decimal32-requires c κs = search needs
-
-is-direction-requires : tie.Need-is-direction-requires
-is-direction-requires c κs = search needs
-
-prepared-decimal32-requires : tie.Need-prepared-decimal32-requires
-prepared-decimal32-requires c κs = search needs
-
-is-member-requires : tie.Need-is-member-requires
-is-member-requires c κs = search needs
-
-is-member-requires-2 : tie.Need-is-member-requires-2
-is-member-requires-2 c κs = search needs
-
 -- a test that fails ends, one that is passed leaves the rest
 ended : {s : Bool} (t : Bool) → s ≡ false → false ≡ s and t
 unfolding _and_
@@ -80,12 +65,12 @@ pub is-call-spec : {M : Type 1} → statement M
 is-call-spec =
     tie.close
     (tie.spec
-    is-decimal32-requires
+    (λ c κs. search needs)
     returns
-    is-direction-requires
+    (λ c κs. search needs)
     returns-2
-    prepared-decimal32-requires
-    is-member-requires
+    (λ c κs. search needs)
+    (λ c κs. search needs)
     returns-3
-    is-member-requires-2
+    (λ c κs. search needs)
     returns-4)

@@ -9,9 +9,6 @@ use Rattle.arithmetic.proofs.DecimalFormat.{prepared-usable, prepared-m
 use Rattle.arithmetic.proofs.decimal32.multiply.Statement.{statement}
 use Rattle.arithmetic.proofs.decimal32.multiply.Tie as tie
 
-prepared-decimal32-requires : tie.Need-prepared-decimal32-requires
-prepared-decimal32-requires c κs = search needs
-
 wide-of-requires : tie.Need-wide-of-requires
 wide-of-requires c κs = let e = c .prepared-decimal32 .ensures in (prepared-usable e, prepared-member e _ (c .before .pre .0))
 
@@ -46,7 +43,7 @@ pub multiply-spec : {M : Type 1} → statement M
 multiply-spec =
     tie.close
     (tie.spec
-    prepared-decimal32-requires
+    (λ c κs. search needs)
     wide-of-requires
     wide-of-requires-2
     product-requires

@@ -5,18 +5,6 @@ use Rattle.number.proofs.Entries.{prepared-entered}
 use Rattle.arithmetic.proofs.entry.enter_operation.Statement.{statement}
 use Rattle.arithmetic.proofs.entry.enter_operation.Tie as tie
 
-prepare-requires : tie.Need-prepare-requires
-prepare-requires c κs = search needs
-
-with-direction-requires : tie.Need-with-direction-requires
-with-direction-requires c κs = search needs
-
-with-number-requires : tie.Need-with-number-requires
-with-number-requires c κs = search needs
-
-with-number-requires-2 : tie.Need-with-number-requires-2
-with-number-requires-2 c κs = search needs
-
 returns : tie.Need-returns
 returns c =
     let n = c .before in
@@ -28,8 +16,8 @@ pub enter-operation-spec : {M : Type 1} → statement M
 enter-operation-spec =
     tie.close
     (tie.spec
-    prepare-requires
-    with-direction-requires
-    with-number-requires
-    with-number-requires-2
+    (λ c κs. search needs)
+    (λ c κs. search needs)
+    (λ c κs. search needs)
+    (λ c κs. search needs)
     returns)

@@ -15,9 +15,6 @@ use Rattle.arithmetic.proofs.Entered.{operation, answered}
 use Rattle.arithmetic.proofs.product.product.Statement.{statement}
 use Rattle.arithmetic.proofs.product.product.Tie as tie
 
-is-call-requires : tie.Need-is-call-requires
-is-call-requires c κs = search needs
-
 -- a call of decimal32
 call : (c : tie.Then1) → let s = c .before .before .args in isCall (s .format) (s .direction) (s .a) (s .b) ≡ true
 call c = sym (c .before .is-call .ensures) ∙ c .if1 .taken
@@ -35,15 +32,6 @@ returns c =
     let t = d .before in
     let s = t .before .before .args in
     call-answered _ _ _ _ (call t) (λ (f : Format) (t : theory.Direction). roundedProduct f t (s .a) (s .b)) (d .direction-of .ensures) (c .multiply .ensures)
-
-enter-operation-requires : tie.Need-enter-operation-requires
-enter-operation-requires c κs = search needs
-
-enum-known-why : tie.Need-enum-known-why
-enum-known-why c = search needs
-
-enum-known-prepared : tie.Need-enum-known-prepared
-enum-known-prepared c = search needs
 
 -- the checks were passed
 entrance : (c : tie.After-prepared) → let s = c .before .before .before .before .before .args in
@@ -74,13 +62,13 @@ pub product-spec : {M : Type 1} → statement M
 product-spec =
     tie.close
     (tie.spec
-    is-call-requires
+    (λ c κs. search needs)
     direction-of-requires
     multiply-requires
     returns
-    enter-operation-requires
-    enum-known-why
-    enum-known-prepared
+    (λ c κs. search needs)
+    (λ c. search needs)
+    (λ c. search needs)
     direction-of-requires-2
     multiply-requires-2
     returns-2

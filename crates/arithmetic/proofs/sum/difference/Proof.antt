@@ -12,15 +12,6 @@ use Rattle.arithmetic.proofs.Entered.{operation, answered}
 use Rattle.arithmetic.proofs.sum.difference.Statement.{statement}
 use Rattle.arithmetic.proofs.sum.difference.Tie as tie
 
-enter-operation-requires : tie.Need-enter-operation-requires
-enter-operation-requires c κs = search needs
-
-enum-known-why : tie.Need-enum-known-why
-enum-known-why c = search needs
-
-enum-known-prepared : tie.Need-enum-known-prepared
-enum-known-prepared c = search needs
-
 -- the checks were passed
 entrance : (c : tie.After-prepared) → let s = c .before .before .before .args in
     entered (s .format) (s .direction ∷ []) (s .a ∷ s .b ∷ []) ≡ Ready (c .prepared .given .0 .0)
@@ -50,9 +41,9 @@ pub difference-spec : {M : Type 1} → statement M
 difference-spec =
     tie.close
     (tie.spec
-    enter-operation-requires
-    enum-known-why
-    enum-known-prepared
+    (λ c κs. search needs)
+    (λ c. search needs)
+    (λ c. search needs)
     direction-of-requires
     subtract-requires
     returns

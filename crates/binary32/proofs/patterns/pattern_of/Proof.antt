@@ -46,9 +46,6 @@ distance-requires c κs =
     let i = inside (c .before) in
     rw (back (exponent-fits (c .before))) (exponents-made (record { emin-low = omega arith; emin-emax = i .exponent-low; emax-high = omega (arith, i .exponent-high) }))
 
-sign-weight-requires : tie.Need-sign-weight-requires
-sign-weight-requires c κs = search needs
-
 mul-result : tie.Need-mul-result
 mul-result c = record { fits = omega (arith, place-most (c .before)) }
 
@@ -67,4 +64,4 @@ returns c = omega (arith, sign-is c, place-is (c .before))
 pub pattern-of-spec : {M : Type 1} → statement M
 pattern-of-spec =
     tie.close
-    (tie.spec distance-requires sign-weight-requires mul-result add-result add-result-2 returns)
+    (tie.spec distance-requires (λ c κs. search needs) mul-result add-result add-result-2 returns)

@@ -34,18 +34,6 @@ module _ (n : ℕ) {q : Prepared} {field m k : ℕ} (qe : q ≡ preparedOf binar
   gives : (s : Bool) {x : Number} → x ≡ number (q .format) s (m * q .format .base ^ k) → x ≡ number binary32 s (magnitudeRead n)
   gives s e = e ∙ rw (qe, place-is, significand-is) (ap (number binary32 s) (sym (magnitude-is n)))
 
-field-of-requires : tie.Need-field-of-requires
-field-of-requires c κs = search needs
-
-significand-of-requires : tie.Need-significand-of-requires
-significand-of-requires c κs = search needs
-
-prepared-binary32-requires : tie.Need-prepared-binary32-requires
-prepared-binary32-requires c κs = search needs
-
-place-of-requires : tie.Need-place-of-requires
-place-of-requires c κs = search needs
-
 number-at-requires : tie.Need-number-at-requires
 number-at-requires c κs =
     let p = c .before in
@@ -66,9 +54,9 @@ pub read-finite-spec : {M : Type 1} → statement M
 read-finite-spec =
     tie.close
     (tie.spec
-    field-of-requires
-    significand-of-requires
-    prepared-binary32-requires
-    place-of-requires
+    (λ c κs. search needs)
+    (λ c κs. search needs)
+    (λ c κs. search needs)
+    (λ c κs. search needs)
     number-at-requires
     returns)

@@ -8,9 +8,6 @@ use Rattle.binary32.specs.Patterns.{fieldOf, finite, patternRead}
 use Rattle.binary32.proofs.patterns.read_pattern.Statement.{statement}
 use Rattle.binary32.proofs.patterns.read_pattern.Tie as tie
 
-field-of-requires : tie.Need-field-of-requires
-field-of-requires c κs = search needs
-
 returns : tie.Need-returns
 unfolding patternRead finite
 returns c =
@@ -26,4 +23,4 @@ unfolding patternRead
 returns-2 c = ap Value (c .read-finite .ensures) ∙ sym (unless-passed _ _ (read-finite-requires (c .before) tt))
 
 pub read-pattern-spec : {M : Type 1} → statement M
-read-pattern-spec = tie.close (tie.spec field-of-requires returns read-finite-requires returns-2)
+read-pattern-spec = tie.close (tie.spec (λ c κs. search needs) returns read-finite-requires returns-2)

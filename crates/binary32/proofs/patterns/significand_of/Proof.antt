@@ -4,9 +4,6 @@ use borrow.Author.Tests.{eq-eqb, ne-eqb}
 use Rattle.binary32.proofs.patterns.significand_of.Statement.{statement}
 use Rattle.binary32.proofs.patterns.significand_of.Tie as tie
 
-add-leading : tie.Need-add-leading
-add-leading c = search needs
-
 returns : tie.Need-returns
 returns c = rw (eq-eqb _ _ (c .if1 .taken))
 
@@ -14,4 +11,4 @@ returns-2 : tie.Need-returns-2
 returns-2 c = rw (ne-eqb _ _ (c .if1 .left))
 
 pub significand-of-spec : {M : Type 1} → statement M
-significand-of-spec = tie.close (tie.spec add-leading returns returns-2)
+significand-of-spec = tie.close (tie.spec (λ c. search needs) returns returns-2)

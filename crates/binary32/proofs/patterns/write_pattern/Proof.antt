@@ -23,18 +23,6 @@ ready e = ap Ready e ∙ sym (unless-passed _ _ binary32-admitted) ∙ prepared-
 checked : (c : tie.After-with-number) → c .with-number .result ≡ entered binary32 [] (c .before .before .args .x ∷ [])
 checked c = c .with-number .ensures _ _ _ (ready (c .before .prepared-binary32 .ensures))
 
-prepared-binary32-requires : tie.Need-prepared-binary32-requires
-prepared-binary32-requires c κs = search needs
-
-with-number-requires : tie.Need-with-number-requires
-with-number-requires c κs = search needs
-
-enum-known-why : tie.Need-enum-known-why
-enum-known-why c = search needs
-
-enum-told : tie.Need-enum-told
-enum-told c = search needs
-
 pattern-of-requires : tie.Need-pattern-of-requires
 pattern-of-requires c κs = one-member (passed _ _ _ (sym (checked (c .before .before)) ∙ c .enum-told .given .1))
 
@@ -52,10 +40,10 @@ pub write-pattern-spec : {M : Type 1} → statement M
 write-pattern-spec =
     tie.close
     (tie.spec
-    prepared-binary32-requires
-    with-number-requires
-    enum-known-why
-    enum-told
+    (λ c κs. search needs)
+    (λ c κs. search needs)
+    (λ c. search needs)
+    (λ c. search needs)
     pattern-of-requires
     returns
     returns-2)

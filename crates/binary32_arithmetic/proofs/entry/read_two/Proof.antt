@@ -5,26 +5,8 @@ use Rattle.binary32_arithmetic.proofs.Reading.{first-refused, second-re
 use Rattle.binary32_arithmetic.proofs.entry.read_two.Statement.{statement}
 use Rattle.binary32_arithmetic.proofs.entry.read_two.Tie as tie
 
-read-pattern-requires : tie.Need-read-pattern-requires
-read-pattern-requires c κs = search needs
-
-enum-known-first : tie.Need-enum-known-first
-enum-known-first c = search needs
-
-enum-told : tie.Need-enum-told
-enum-told c = search needs
-
 returns : tie.Need-returns
 returns c = first-refused _ _ (sym (c .before .before .read-pattern .ensures) ∙ c .enum-told .given .1)
-
-read-pattern-requires-2 : tie.Need-read-pattern-requires-2
-read-pattern-requires-2 c κs = search needs
-
-enum-known-second : tie.Need-enum-known-second
-enum-known-second c = search needs
-
-enum-told-2 : tie.Need-enum-told-2
-enum-told-2 c = search needs
 
 returns-2 : tie.Need-returns-2
 returns-2 c =
@@ -43,12 +25,12 @@ pub read-two-spec : {M : Type 1} → statement M
 read-two-spec =
     tie.close
     (tie.spec
-    read-pattern-requires
-    enum-known-first
-    enum-told
+    (λ c κs. search needs)
+    (λ c. search needs)
+    (λ c. search needs)
     returns
-    read-pattern-requires-2
-    enum-known-second
-    enum-told-2
+    (λ c κs. search needs)
+    (λ c. search needs)
+    (λ c. search needs)
     returns-2
     returns-3)

@@ -6,12 +6,6 @@ use Rattle.binary32.specs.Patterns.{answerWritten}
 use Rattle.binary32_arithmetic.proofs.entry.write_answer.Statement.{statement}
 use Rattle.binary32_arithmetic.proofs.entry.write_answer.Tie as tie
 
-enum-known-answer : tie.Need-enum-known-answer
-enum-known-answer c = search needs
-
-enum-known-answer-2 : tie.Need-enum-known-answer-2
-enum-known-answer-2 c = search needs
-
 pattern-of-requires : tie.Need-pattern-of-requires
 pattern-of-requires c κs = let k = c .before in k .before .before .pre _ (k .answer2 .given .1)
 
@@ -22,4 +16,4 @@ returns-2 : tie.Need-returns-2
 returns-2 c = ap Written (c .pattern-of .ensures) ∙ sym (ap answerWritten (c .before .before .answer2 .given .1))
 
 pub write-answer-spec : {M : Type 1} → statement M
-write-answer-spec = tie.close (tie.spec enum-known-answer enum-known-answer-2 pattern-of-requires returns returns-2)
+write-answer-spec = tie.close (tie.spec (λ c. search needs) (λ c. search needs) pattern-of-requires returns returns-2)

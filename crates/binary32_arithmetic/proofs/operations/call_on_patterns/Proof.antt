@@ -7,18 +7,12 @@ use Rattle.binary32_arithmetic.specs.Calls.{onPatterns, patternCall}
 use Rattle.binary32_arithmetic.proofs.operations.call_on_patterns.Statement.{statement}
 use Rattle.binary32_arithmetic.proofs.operations.call_on_patterns.Tie as tie
 
-is-direction-requires : tie.Need-is-direction-requires
-is-direction-requires c κs = search needs
-
 returns : tie.Need-returns
 unfolding patternCall
 returns c = sym (unless-failed _ _ (denied (c .before .is-direction .ensures) (c .if1 .taken)))
 
 direction-of-requires : tie.Need-direction-of-requires
 direction-of-requires c κs = granted (c .before .is-direction .ensures) (c .if1 .left)
-
-operate-on-patterns-requires : tie.Need-operate-on-patterns-requires
-operate-on-patterns-requires c κs = search needs
 
 returns-2 : tie.Need-returns-2
 unfolding patternCall
@@ -29,4 +23,4 @@ returns-2 c =
     ∙ sym (unless-passed _ _ (granted (e .before .is-direction .ensures) (e .if1 .left)))
 
 pub call-on-patterns-spec : {M : Type 1} → statement M
-call-on-patterns-spec = tie.close (tie.spec is-direction-requires returns direction-of-requires operate-on-patterns-requires returns-2)
+call-on-patterns-spec = tie.close (tie.spec (λ c κs. search needs) returns direction-of-requires (λ c κs. search needs) returns-2)

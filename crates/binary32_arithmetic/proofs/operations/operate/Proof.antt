@@ -21,29 +21,14 @@ asked c =
     let p = c .before .pre in
     (usable-binary32 e, member-prepared e _ (p .0), member-prepared e _ (p .1))
 
-prepared-binary32-requires : tie.Need-prepared-binary32-requires
-prepared-binary32-requires c κs = search needs
-
-enum-told : tie.Need-enum-told
-enum-told c = search needs
-
 add-requires : tie.Need-add-requires
 add-requires c κs = asked (c .before .before)
-
-enum-told-2 : tie.Need-enum-told-2
-enum-told-2 c = search needs
 
 subtract-requires : tie.Need-subtract-requires
 subtract-requires c κs = asked (c .before .before)
 
-enum-told-3 : tie.Need-enum-told-3
-enum-told-3 c = search needs
-
 multiply-requires : tie.Need-multiply-requires
 multiply-requires c κs = asked (c .before .before)
-
-enum-told-4 : tie.Need-enum-told-4
-enum-told-4 c = search needs
 
 divide-requires : tie.Need-divide-requires
 divide-requires c κs = asked (c .before .before)
@@ -82,4 +67,4 @@ returns-4 c =
 
 pub operate-spec : {M : Type 1} → statement M
 operate-spec =
-    tie.close (tie.spec prepared-binary32-requires enum-told add-requires enum-told-2 subtract-requires enum-told-3 multiply-requires enum-told-4 divide-requires returns returns-2 returns-3 returns-4)
+    tie.close (tie.spec (λ c κs. search needs) (λ c. search needs) add-requires (λ c. search needs) subtract-requires (λ c. search needs) multiply-requires (λ c. search needs) divide-requires returns returns-2 returns-3 returns-4)

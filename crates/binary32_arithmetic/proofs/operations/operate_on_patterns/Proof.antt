@@ -8,15 +8,6 @@ use Rattle.binary32_arithmetic.proofs.Results.{result-member}
 use Rattle.binary32_arithmetic.proofs.operations.operate_on_patterns.Statement.{statement}
 use Rattle.binary32_arithmetic.proofs.operations.operate_on_patterns.Tie as tie
 
-read-two-requires : tie.Need-read-two-requires
-read-two-requires c κs = search needs
-
-enum-known-why : tie.Need-enum-known-why
-enum-known-why c = search needs
-
-enum-known-pair : tie.Need-enum-known-pair
-enum-known-pair c = search needs
-
 -- the two numbers that were read
 both : (c : tie.After-pair) → let s = c .before .before .before .args in Given (s .a) (s .b) (c .pair .given .0 .0)
 both c = given _ _ (sym (c .before .before .read-two .ensures) ∙ c .pair .given .1)
@@ -41,9 +32,9 @@ pub operate-on-patterns-spec : {M : Type 1} → statement M
 operate-on-patterns-spec =
     tie.close
     (tie.spec
-    read-two-requires
-    enum-known-why
-    enum-known-pair
+    (λ c κs. search needs)
+    (λ c. search needs)
+    (λ c. search needs)
     operate-requires
     write-answer-requires
     returns

@@ -6,18 +6,12 @@ use Rattle.theory.proofs.Tests.{never, and-left, denied, granted, refuted}
 use Rattle.binary32_arithmetic.proofs.slices.are_halves.Statement.{statement}
 use Rattle.binary32_arithmetic.proofs.slices.are_halves.Tie as tie
 
-is-half-requires : tie.Need-is-half-requires
-is-half-requires c κs = search needs
-
 returns : tie.Need-returns
 returns c = refuted (λ h. never (sym (and-left _ _ h) ∙ denied (c .before .is-half .ensures) (c .if1 .taken)))
-
-is-half-requires-2 : tie.Need-is-half-requires-2
-is-half-requires-2 c κs = search needs
 
 returns-2 : tie.Need-returns-2
 unfolding _and_
 returns-2 c = c .is-half2 .ensures ∙ rw (granted (c .before .before .is-half .ensures) (c .before .if1 .left), _and_)
 
 pub are-halves-spec : {M : Type 1} → statement M
-are-halves-spec = tie.close (tie.spec is-half-requires returns is-half-requires-2 returns-2)
+are-halves-spec = tie.close (tie.spec (λ c κs. search needs) returns (λ c κs. search needs) returns-2)

@@ -8,22 +8,10 @@ use Rattle.binary32_arithmetic.proofs.Halves.{halves-pass}
 use Rattle.binary32_arithmetic.proofs.slices.examine.Statement.{statement}
 use Rattle.binary32_arithmetic.proofs.slices.examine.Tie as tie
 
-are-halves-requires : tie.Need-are-halves-requires
-are-halves-requires c κs = search needs
-
 returns : tie.Need-returns
 returns c =
     let h = sym (c .before .are-halves .ensures) ∙ c .if1 .taken in
     halves-pass _ _ _ (ltb-true _ _ (and-left _ _ h)) (ltb-true _ _ (and-right _ _ h))
-
-operate-on-patterns-requires : tie.Need-operate-on-patterns-requires
-operate-on-patterns-requires c κs = search needs
-
-enum-told : tie.Need-enum-told
-enum-told c = search needs
-
-enum-known-why : tie.Need-enum-known-why
-enum-known-why c = search needs
 
 returns-2 : tie.Need-returns-2
 returns-2 c = sym (ap verdictOf (sym (c .before .before .operate-on-patterns .ensures) ∙ c .enum-told .given .1))
@@ -34,4 +22,4 @@ returns-3 c = sym (ap verdictOf (sym (c .before .before .before .operate-on-patt
 pub examine-spec : {M : Type 1} → statement M
 examine-spec =
     tie.close
-    (tie.spec are-halves-requires returns operate-on-patterns-requires enum-told enum-known-why returns-2 returns-3)
+    (tie.spec (λ c κs. search needs) returns (λ c κs. search needs) (λ c. search needs) (λ c. search needs) returns-2 returns-3)

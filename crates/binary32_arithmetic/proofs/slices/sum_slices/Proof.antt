@@ -52,9 +52,6 @@ returns-2 c =
     let s = c .before .before .before .before .before .args in
     (lengths-differ (s .direction) (s .a .now) (s .b .now) (s .out .now) (second-differs (s .direction) (s .a .now) (s .b .now) (s .out .now) (c .before .if1 .left) (c .if2 .taken)), refl)
 
-is-direction-requires : tie.Need-is-direction-requires
-is-direction-requires c κs = search needs
-
 returns-3 : tie.Need-returns-3
 returns-3 c =
     let e = c .before .before in
@@ -63,9 +60,6 @@ returns-3 c =
 
 direction-of-requires : tie.Need-direction-of-requires
 direction-of-requires c κs = granted (c .before .is-direction .ensures) (c .if3 .left)
-
-first-refused-requires : tie.Need-first-refused-requires
-first-refused-requires c κs = search needs
 
 -- ---- after the first pass
 module _ (j : tie.After-first-refused) where
@@ -80,18 +74,6 @@ module _ (j : tie.After-first-refused) where
       ∙ checked (start .args .direction) (start .args .a .now) (start .args .b .now) (start .args .out .now) (e .before .if1 .left) (e .if2 .left)
       (granted (f .before .is-direction .ensures) (f .if3 .left)) (j .before .direction-of .ensures)
 
-enum-known-why : tie.Need-enum-known-why
-enum-known-why c = search needs
-
-enum-known-why-2 : tie.Need-enum-known-why-2
-enum-known-why-2 c = search needs
-
-enum-told : tie.Need-enum-told
-enum-told c = search needs
-
-write-sums-requires : tie.Need-write-sums-requires
-write-sums-requires c κs = search needs
-
 returns-4 : tie.Need-returns-4
 returns-4 c =
     let j = c .before .before .before in
@@ -99,9 +81,6 @@ returns-4 c =
 
 returns-5 : tie.Need-returns-5
 returns-5 c = (sym (c .before .why2 .given .1) ∙ passed (c .before .before .before), refl)
-
-same-length : tie.Need-same-length
-same-length c = search needs
 
 returns-6 : tie.Need-returns-6
 returns-6 c =
@@ -118,15 +97,15 @@ sum-slices-spec =
     (tie.spec
     returns
     returns-2
-    is-direction-requires
+    (λ c κs. search needs)
     returns-3
     direction-of-requires
-    first-refused-requires
-    enum-known-why
-    enum-known-why-2
-    enum-told
-    write-sums-requires
+    (λ c κs. search needs)
+    (λ c. search needs)
+    (λ c. search needs)
+    (λ c. search needs)
+    (λ c κs. search needs)
     returns-4
     returns-5
-    same-length
+    (λ c. search needs)
     returns-6)

@@ -5,14 +5,8 @@ use Rattle.c_answers.specs.Answers.{verdictOut}
 use Rattle.c_api.proofs.numbers.zurkeb_check_format.Statement.{statement}
 use Rattle.c_api.proofs.numbers.zurkeb_check_format.Tie as tie
 
-check-format-requires : tie.Need-check-format-requires
-check-format-requires c κs = search needs
-
-verdict-out-requires : tie.Need-verdict-out-requires
-verdict-out-requires c κs = search needs
-
 returns : tie.Need-returns
 returns c = c .verdict-out .ensures ∙ ap verdictOut (c .before .check-format .ensures)
 
 pub zurkeb-check-format-spec : {M : Type 1} → statement M
-zurkeb-check-format-spec = tie.close (tie.spec check-format-requires verdict-out-requires returns)
+zurkeb-check-format-spec = tie.close (tie.spec (λ c κs. search needs) (λ c κs. search needs) returns)

@@ -5,14 +5,8 @@ use Rattle.c_answers.specs.Answers.{verdictOut}
 use Rattle.c_api.proofs.numbers.zurkeb_check_number.Statement.{statement}
 use Rattle.c_api.proofs.numbers.zurkeb_check_number.Tie as tie
 
-check-number-requires : tie.Need-check-number-requires
-check-number-requires c κs = search needs
-
-verdict-out-requires : tie.Need-verdict-out-requires
-verdict-out-requires c κs = search needs
-
 returns : tie.Need-returns
 returns c = c .verdict-out .ensures ∙ ap verdictOut (c .before .check-number .ensures)
 
 pub zurkeb-check-number-spec : {M : Type 1} → statement M
-zurkeb-check-number-spec = tie.close (tie.spec check-number-requires verdict-out-requires returns)
+zurkeb-check-number-spec = tie.close (tie.spec (λ c κs. search needs) (λ c κs. search needs) returns)

@@ -5,14 +5,8 @@ use Rattle.c_answers.specs.Answers.{numberOut}
 use Rattle.c_api.proofs.numbers.zurkeb_difference.Statement.{statement}
 use Rattle.c_api.proofs.numbers.zurkeb_difference.Tie as tie
 
-difference-requires : tie.Need-difference-requires
-difference-requires c κs = search needs
-
-number-out-requires : tie.Need-number-out-requires
-number-out-requires c κs = search needs
-
 returns : tie.Need-returns
 returns c = c .number-out .ensures ∙ ap numberOut (c .before .difference .ensures)
 
 pub zurkeb-difference-spec : {M : Type 1} → statement M
-zurkeb-difference-spec = tie.close (tie.spec difference-requires number-out-requires returns)
+zurkeb-difference-spec = tie.close (tie.spec (λ c κs. search needs) (λ c κs. search needs) returns)

@@ -5,14 +5,8 @@ use Rattle.c_answers.specs.Answers.{numberOut}
 use Rattle.c_api.proofs.numbers.zurkeb_negate.Statement.{statement}
 use Rattle.c_api.proofs.numbers.zurkeb_negate.Tie as tie
 
-negate-requires : tie.Need-negate-requires
-negate-requires c κs = search needs
-
-number-out-requires : tie.Need-number-out-requires
-number-out-requires c κs = search needs
-
 returns : tie.Need-returns
 returns c = c .number-out .ensures ∙ ap numberOut (c .before .negate .ensures)
 
 pub zurkeb-negate-spec : {M : Type 1} → statement M
-zurkeb-negate-spec = tie.close (tie.spec negate-requires number-out-requires returns)
+zurkeb-negate-spec = tie.close (tie.spec (λ c κs. search needs) (λ c κs. search needs) returns)

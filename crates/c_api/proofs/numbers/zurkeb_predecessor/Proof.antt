@@ -5,14 +5,8 @@ use Rattle.c_answers.specs.Answers.{numberOut}
 use Rattle.c_api.proofs.numbers.zurkeb_predecessor.Statement.{statement}
 use Rattle.c_api.proofs.numbers.zurkeb_predecessor.Tie as tie
 
-predecessor-requires : tie.Need-predecessor-requires
-predecessor-requires c κs = search needs
-
-number-out-requires : tie.Need-number-out-requires
-number-out-requires c κs = search needs
-
 returns : tie.Need-returns
 returns c = c .number-out .ensures ∙ ap numberOut (c .before .predecessor .ensures)
 
 pub zurkeb-predecessor-spec : {M : Type 1} → statement M
-zurkeb-predecessor-spec = tie.close (tie.spec predecessor-requires number-out-requires returns)
+zurkeb-predecessor-spec = tie.close (tie.spec (λ c κs. search needs) (λ c κs. search needs) returns)

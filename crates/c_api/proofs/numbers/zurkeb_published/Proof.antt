@@ -5,14 +5,8 @@ use Rattle.c_answers.specs.Answers.{publishedOut}
 use Rattle.c_api.proofs.numbers.zurkeb_published.Statement.{statement}
 use Rattle.c_api.proofs.numbers.zurkeb_published.Tie as tie
 
-published-requires : tie.Need-published-requires
-published-requires c κs = search needs
-
-published-out-requires : tie.Need-published-out-requires
-published-out-requires c κs = search needs
-
 returns : tie.Need-returns
 returns c = c .published-out .ensures ∙ ap publishedOut (c .before .published .ensures)
 
 pub zurkeb-published-spec : {M : Type 1} → statement M
-zurkeb-published-spec = tie.close (tie.spec published-requires published-out-requires returns)
+zurkeb-published-spec = tie.close (tie.spec (λ c κs. search needs) (λ c κs. search needs) returns)

@@ -5,14 +5,8 @@ use Rattle.c_answers.specs.Answers.{numberOut}
 use Rattle.c_api.proofs.numbers.zurkeb_quotient.Statement.{statement}
 use Rattle.c_api.proofs.numbers.zurkeb_quotient.Tie as tie
 
-quotient-requires : tie.Need-quotient-requires
-quotient-requires c κs = search needs
-
-number-out-requires : tie.Need-number-out-requires
-number-out-requires c κs = search needs
-
 returns : tie.Need-returns
 returns c = c .number-out .ensures ∙ ap numberOut (c .before .quotient .ensures)
 
 pub zurkeb-quotient-spec : {M : Type 1} → statement M
-zurkeb-quotient-spec = tie.close (tie.spec quotient-requires number-out-requires returns)
+zurkeb-quotient-spec = tie.close (tie.spec (λ c κs. search needs) (λ c κs. search needs) returns)

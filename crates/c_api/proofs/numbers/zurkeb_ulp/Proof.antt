@@ -5,14 +5,8 @@ use Rattle.c_answers.specs.Answers.{numberOut}
 use Rattle.c_api.proofs.numbers.zurkeb_ulp.Statement.{statement}
 use Rattle.c_api.proofs.numbers.zurkeb_ulp.Tie as tie
 
-ulp-requires : tie.Need-ulp-requires
-ulp-requires c κs = search needs
-
-number-out-requires : tie.Need-number-out-requires
-number-out-requires c κs = search needs
-
 returns : tie.Need-returns
 returns c = c .number-out .ensures ∙ ap numberOut (c .before .ulp .ensures)
 
 pub zurkeb-ulp-spec : {M : Type 1} → statement M
-zurkeb-ulp-spec = tie.close (tie.spec ulp-requires number-out-requires returns)
+zurkeb-ulp-spec = tie.close (tie.spec (λ c κs. search needs) (λ c κs. search needs) returns)

@@ -5,14 +5,8 @@ use Rattle.c_answers.specs.Answers.{numberOut}
 use Rattle.c_api.proofs.numbers.zurkeb_uls.Statement.{statement}
 use Rattle.c_api.proofs.numbers.zurkeb_uls.Tie as tie
 
-uls-requires : tie.Need-uls-requires
-uls-requires c κs = search needs
-
-number-out-requires : tie.Need-number-out-requires
-number-out-requires c κs = search needs
-
 returns : tie.Need-returns
 returns c = c .number-out .ensures ∙ ap numberOut (c .before .uls .ensures)
 
 pub zurkeb-uls-spec : {M : Type 1} → statement M
-zurkeb-uls-spec = tie.close (tie.spec uls-requires number-out-requires returns)
+zurkeb-uls-spec = tie.close (tie.spec (λ c κs. search needs) (λ c κs. search needs) returns)

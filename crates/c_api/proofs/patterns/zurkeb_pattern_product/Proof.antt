@@ -5,14 +5,8 @@ use Rattle.c_answers.specs.Answers.{patternOut}
 use Rattle.c_api.proofs.patterns.zurkeb_pattern_product.Statement.{statement}
 use Rattle.c_api.proofs.patterns.zurkeb_pattern_product.Tie as tie
 
-pattern-product-requires : tie.Need-pattern-product-requires
-pattern-product-requires c κs = search needs
-
-pattern-out-requires : tie.Need-pattern-out-requires
-pattern-out-requires c κs = search needs
-
 returns : tie.Need-returns
 returns c = c .pattern-out .ensures ∙ ap patternOut (c .before .pattern-product .ensures)
 
 pub zurkeb-pattern-product-spec : {M : Type 1} → statement M
-zurkeb-pattern-product-spec = tie.close (tie.spec pattern-product-requires pattern-out-requires returns)
+zurkeb-pattern-product-spec = tie.close (tie.spec (λ c κs. search needs) (λ c κs. search needs) returns)

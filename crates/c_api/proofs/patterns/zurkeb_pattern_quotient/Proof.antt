@@ -5,14 +5,8 @@ use Rattle.c_answers.specs.Answers.{patternOut}
 use Rattle.c_api.proofs.patterns.zurkeb_pattern_quotient.Statement.{statement}
 use Rattle.c_api.proofs.patterns.zurkeb_pattern_quotient.Tie as tie
 
-pattern-quotient-requires : tie.Need-pattern-quotient-requires
-pattern-quotient-requires c κs = search needs
-
-pattern-out-requires : tie.Need-pattern-out-requires
-pattern-out-requires c κs = search needs
-
 returns : tie.Need-returns
 returns c = c .pattern-out .ensures ∙ ap patternOut (c .before .pattern-quotient .ensures)
 
 pub zurkeb-pattern-quotient-spec : {M : Type 1} → statement M
-zurkeb-pattern-quotient-spec = tie.close (tie.spec pattern-quotient-requires pattern-out-requires returns)
+zurkeb-pattern-quotient-spec = tie.close (tie.spec (λ c κs. search needs) (λ c κs. search needs) returns)

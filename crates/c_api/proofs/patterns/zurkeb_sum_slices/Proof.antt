@@ -8,15 +8,6 @@ use Rattle.c_answers.specs.Answers.{slicesOut}
 use Rattle.c_api.proofs.patterns.zurkeb_sum_slices.Statement.{statement}
 use Rattle.c_api.proofs.patterns.zurkeb_sum_slices.Tie as tie
 
-sum-slices-requires : tie.Need-sum-slices-requires
-sum-slices-requires c κs = search needs
-
-slices-out-requires : tie.Need-slices-out-requires
-slices-out-requires c κs = search needs
-
-same-length : tie.Need-same-length
-same-length c = search needs
-
 returns : tie.Need-returns
 returns c =
     let j = c .before .before .before in
@@ -26,4 +17,4 @@ returns c =
     )
 
 pub zurkeb-sum-slices-spec : {M : Type 1} → statement M
-zurkeb-sum-slices-spec = tie.close (tie.spec sum-slices-requires slices-out-requires same-length returns)
+zurkeb-sum-slices-spec = tie.close (tie.spec (λ c κs. search needs) (λ c κs. search needs) (λ c. search needs) returns)

@@ -5,14 +5,8 @@ use Rattle.c_answers.specs.Answers.{patternOut}
 use Rattle.c_api.proofs.patterns.zurkeb_write_pattern.Statement.{statement}
 use Rattle.c_api.proofs.patterns.zurkeb_write_pattern.Tie as tie
 
-write-pattern-requires : tie.Need-write-pattern-requires
-write-pattern-requires c κs = search needs
-
-pattern-out-requires : tie.Need-pattern-out-requires
-pattern-out-requires c κs = search needs
-
 returns : tie.Need-returns
 returns c = c .pattern-out .ensures ∙ ap patternOut (c .before .write-pattern .ensures)
 
 pub zurkeb-write-pattern-spec : {M : Type 1} → statement M
-zurkeb-write-pattern-spec = tie.close (tie.spec write-pattern-requires pattern-out-requires returns)
+zurkeb-write-pattern-spec = tie.close (tie.spec (λ c κs. search needs) (λ c κs. search needs) returns)

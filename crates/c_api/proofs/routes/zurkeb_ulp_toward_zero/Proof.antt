@@ -5,14 +5,8 @@ use Rattle.c_answers.specs.Answers.{numberOut}
 use Rattle.c_api.proofs.routes.zurkeb_ulp_toward_zero.Statement.{statement}
 use Rattle.c_api.proofs.routes.zurkeb_ulp_toward_zero.Tie as tie
 
-ulp-toward-zero-requires : tie.Need-ulp-toward-zero-requires
-ulp-toward-zero-requires c κs = search needs
-
-number-out-requires : tie.Need-number-out-requires
-number-out-requires c κs = search needs
-
 returns : tie.Need-returns
 returns c = c .number-out .ensures ∙ ap numberOut (c .before .ulp-toward-zero .ensures)
 
 pub zurkeb-ulp-toward-zero-spec : {M : Type 1} → statement M
-zurkeb-ulp-toward-zero-spec = tie.close (tie.spec ulp-toward-zero-requires number-out-requires returns)
+zurkeb-ulp-toward-zero-spec = tie.close (tie.spec (λ c κs. search needs) (λ c κs. search needs) returns)

@@ -5,14 +5,8 @@ use Rattle.c_answers.specs.Answers.{numberOut}
 use Rattle.c_api.proofs.routes.zurkeb_ulp_upward.Statement.{statement}
 use Rattle.c_api.proofs.routes.zurkeb_ulp_upward.Tie as tie
 
-ulp-upward-requires : tie.Need-ulp-upward-requires
-ulp-upward-requires c κs = search needs
-
-number-out-requires : tie.Need-number-out-requires
-number-out-requires c κs = search needs
-
 returns : tie.Need-returns
 returns c = c .number-out .ensures ∙ ap numberOut (c .before .ulp-upward .ensures)
 
 pub zurkeb-ulp-upward-spec : {M : Type 1} → statement M
-zurkeb-ulp-upward-spec = tie.close (tie.spec ulp-upward-requires number-out-requires returns)
+zurkeb-ulp-upward-spec = tie.close (tie.spec (λ c κs. search needs) (λ c κs. search needs) returns)

@@ -5,14 +5,8 @@ use Rattle.c_answers.specs.Answers.{stepsOut}
 use Rattle.c_api.proofs.steps.zurkeb_fast_two_sum.Statement.{statement}
 use Rattle.c_api.proofs.steps.zurkeb_fast_two_sum.Tie as tie
 
-fast-two-sum-requires : tie.Need-fast-two-sum-requires
-fast-two-sum-requires c κs = search needs
-
-steps-out-requires : tie.Need-steps-out-requires
-steps-out-requires c κs = search needs
-
 returns : tie.Need-returns
 returns c = c .steps-out .ensures ∙ ap stepsOut (c .before .fast-two-sum .ensures)
 
 pub zurkeb-fast-two-sum-spec : {M : Type 1} → statement M
-zurkeb-fast-two-sum-spec = tie.close (tie.spec fast-two-sum-requires steps-out-requires returns)
+zurkeb-fast-two-sum-spec = tie.close (tie.spec (λ c κs. search needs) (λ c κs. search needs) returns)

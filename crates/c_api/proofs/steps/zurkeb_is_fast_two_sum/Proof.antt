@@ -5,14 +5,8 @@ use Rattle.c_answers.specs.Answers.{checkOut}
 use Rattle.c_api.proofs.steps.zurkeb_is_fast_two_sum.Statement.{statement}
 use Rattle.c_api.proofs.steps.zurkeb_is_fast_two_sum.Tie as tie
 
-is-fast-two-sum-requires : tie.Need-is-fast-two-sum-requires
-is-fast-two-sum-requires c κs = search needs
-
-check-out-requires : tie.Need-check-out-requires
-check-out-requires c κs = search needs
-
 returns : tie.Need-returns
 returns c = c .check-out .ensures ∙ ap checkOut (c .before .is-fast-two-sum .ensures)
 
 pub zurkeb-is-fast-two-sum-spec : {M : Type 1} → statement M
-zurkeb-is-fast-two-sum-spec = tie.close (tie.spec is-fast-two-sum-requires check-out-requires returns)
+zurkeb-is-fast-two-sum-spec = tie.close (tie.spec (λ c κs. search needs) (λ c κs. search needs) returns)

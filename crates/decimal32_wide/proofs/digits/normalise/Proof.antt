@@ -9,9 +9,6 @@ use Rattle.decimal32_wide.proofs.digits.normalise.Tie as tie
 returns : tie.Need-returns
 returns c = let s = c .before in grown-shifted (s .pre .0) (grown-none 1000000 (c .if1 .taken) (s .pre .1))
 
-mul-value : tie.Need-mul-value
-mul-value c = search needs
-
 abbrev start : tie.Joined2 → tie.Start
 start c = c .before .before
 
@@ -23,9 +20,6 @@ four c =
     (λ w. grown-at (w .1) (w .2) (grown-none 1000 (omega (arith, w .0 .left)) (s .pre .1)))
     (c .if2 .came)
 
-mul-value-2 : tie.Need-mul-value-2
-mul-value-2 c = search needs
-
 add-shift : tie.Need-add-shift
 add-shift c = let d = c .before .before .before in omega (arith, grown-few (start d .pre .0) (four d))
 
@@ -36,9 +30,6 @@ two c =
     (λ w. grown-at (w .3) (w .4) (grown-by g 2 100000 (omega (arith, g .least)) (omega (arith, w .0 .taken))))
     (λ w. grown-at (w .1) (w .2) (grown-less g 100000 (omega (arith, w .0 .left))))
     (c .if3 .came)
-
-mul-value-3 : tie.Need-mul-value-3
-mul-value-3 c = search needs
 
 add-shift-2 : tie.Need-add-shift-2
 add-shift-2 c = let d = c .before .before .before in omega (arith, grown-few (start (d .before) .pre .0) (two d))
@@ -60,10 +51,10 @@ normalise-spec =
     tie.close
     (tie.spec
     returns
-    mul-value
-    mul-value-2
+    (λ c. search needs)
+    (λ c. search needs)
     add-shift
-    mul-value-3
+    (λ c. search needs)
     add-shift-2
     returns-2
     returns-3)

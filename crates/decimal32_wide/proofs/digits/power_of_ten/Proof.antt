@@ -9,15 +9,6 @@ use Rattle.decimal32_wide.proofs.Growth.{either-most, power-parts}
 use Rattle.decimal32_wide.proofs.digits.power_of_ten.Statement.{statement}
 use Rattle.decimal32_wide.proofs.digits.power_of_ten.Tie as tie
 
-select-requires : tie.Need-select-requires
-select-requires c κs = search needs
-
-select-requires-2 : tie.Need-select-requires-2
-select-requires-2 c κs = search needs
-
-select-requires-3 : tie.Need-select-requires-3
-select-requires-3 c κs = search needs
-
 abbrev start : tie.After-select3 → tie.Start
 start c = c .before .before .before
 
@@ -49,9 +40,9 @@ pub power-of-ten-spec : {M : Type 1} → statement M
 power-of-ten-spec =
     tie.close
     (tie.spec
-    select-requires
-    select-requires-2
-    select-requires-3
+    (λ c κs. search needs)
+    (λ c κs. search needs)
+    (λ c κs. search needs)
     mul-result
     mul-result-2
     returns)

@@ -10,23 +10,11 @@ use Rattle.decimal32_wide.proofs.Exact.{drop-cut, product-cut}
 use Rattle.decimal32_wide.proofs.product.product.Statement.{statement}
 use Rattle.decimal32_wide.proofs.product.product.Tie as tie
 
-cast-n : tie.Need-cast-n
-cast-n c = search needs
-
-cast-n-2 : tie.Need-cast-n-2
-cast-n-2 c = search needs
-
 small : (c : tie.Start) → c .args .x .significand * c .args .y .significand < 100000000000000
 small c = product-small scaled (c .pre .0) (c .pre .1)
 
 mul-n : tie.Need-mul-n
 mul-n c = omega (arith, small (c .before .before))
-
-add-up : tie.Need-add-up
-add-up c = search needs
-
-sub-divide : tie.Need-sub-divide
-sub-divide c = search needs
 
 abbrev start : tie.After-struct-known4 → tie.Start
 start c = c .before .before .before .before
@@ -58,12 +46,6 @@ round-product-requires c κs =
           ∙ product-cut (s .pre .0) (s .pre .1),
     )
 
-returns : tie.Need-returns
-returns c = search needs
-
-sub-divide-2 : tie.Need-sub-divide-2
-sub-divide-2 c = search needs
-
 divide-requires-2 : tie.Need-divide-requires-2
 divide-requires-2 c κs = (scaled, omega arith, omega arith, omega (arith, c .before .if2 .left))
 
@@ -82,9 +64,6 @@ round-product-requires-2 c κs =
           ∙ product-cut (s .pre .0) (s .pre .1),
     )
 
-returns-2 : tie.Need-returns-2
-returns-2 c = search needs
-
 cut-requires : tie.Need-cut-requires
 cut-requires c κs = let s = start (c .before) in (scaled, small s, omega (arith, s .pre .0 .place-most, s .pre .1 .place-most), omega arith)
 
@@ -93,25 +72,22 @@ round-product-requires-3 c κs =
     let s = start (c .before .before) in
     (scaled, s .pre .0, s .pre .1, omega arith, c .cut .ensures ∙ product-cut (s .pre .0) (s .pre .1))
 
-returns-3 : tie.Need-returns-3
-returns-3 c = search needs
-
 pub product-spec : {M : Type 1} → statement M
 product-spec =
     tie.close
     (tie.spec
-    cast-n
-    cast-n-2
+    (λ c. search needs)
+    (λ c. search needs)
     mul-n
-    add-up
-    sub-divide
+    (λ c. search needs)
+    (λ c. search needs)
     divide-requires
     round-product-requires
-    returns
-    sub-divide-2
+    (λ c. search needs)
+    (λ c. search needs)
     divide-requires-2
     round-product-requires-2
-    returns-2
+    (λ c. search needs)
     cut-requires
     round-product-requires-3
-    returns-3)
+    (λ c. search needs))

@@ -15,9 +15,6 @@ use Rattle.decimal32_wide.proofs.quotient.cut_short.Tie as tie
 kept : (c : tie.Start) → Kept scaled (c .args .a) (c .args .b) (c .args .digits)
 kept c = record { below = c .pre .2; above = c .pre .3 }
 
-power-of-ten-requires : tie.Need-power-of-ten-requires
-power-of-ten-requires c κs = search needs
-
 part : (c : tie.After-power-of-ten) → let a = c .before .before .args in a .a * c .power-of-ten .result ≡ a .a * 10 ^ (a .high - a .low)
 part c = ap (λ (v : ℕ). c .before .before .args .a * v) (c .power-of-ten .ensures)
 
@@ -39,12 +36,6 @@ returns c =
     ∙ ap (λ (n : ℕ). dropped n (a .b) 0) (part (c .before))
     ∙ sym (quotient-drop scaled (p .0) (p .1) (a .digits) (kept s) (a .high) (a .low) (a .high - a .low) 0 (omega (arith, p .5)) (omega (arith, t .if1 .taken)))
 
-sub-locate-under : tie.Need-sub-locate-under
-sub-locate-under c = search needs
-
-locate-under-requires : tie.Need-locate-under-requires
-locate-under-requires c κs = search needs
-
 returns-2 : tie.Need-returns-2
 returns-2 c =
     let t = c .before in
@@ -58,9 +49,9 @@ pub cut-short-spec : {M : Type 1} → statement M
 cut-short-spec =
     tie.close
     (tie.spec
-    power-of-ten-requires
+    (λ c κs. search needs)
     divide-shifted-requires
     returns
-    sub-locate-under
-    locate-under-requires
+    (λ c. search needs)
+    (λ c κs. search needs)
     returns-2)

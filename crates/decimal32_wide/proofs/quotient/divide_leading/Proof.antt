@@ -37,9 +37,6 @@ add-if2 c = let j = c .before in omega (arith, digits-most j, start j .pre .5)
 add-divide-shifted : tie.Need-add-divide-shifted
 add-divide-shifted c = let j = c .before .before in omega (arith, digits-most j, start j .pre .5)
 
-sub-divide-shifted : tie.Need-sub-divide-shifted
-sub-divide-shifted c = search needs
-
 divide-shifted-requires : tie.Need-divide-shifted-requires
 divide-shifted-requires c κs =
     let j = c .before .before in
@@ -62,9 +59,6 @@ round-quotient-requires c κs =
           ∙ p .6,
     )
 
-returns : tie.Need-returns
-returns c = search needs
-
 cut-short-requires : tie.Need-cut-short-requires
 cut-short-requires c κs =
     let j = c .before .before in
@@ -76,19 +70,16 @@ round-quotient-requires-2 c κs =
     let p = start (c .before .before .before) .pre in
     (scaled, p .0, p .1, omega arith, c .cut-short .ensures ∙ p .6)
 
-returns-2 : tie.Need-returns-2
-returns-2 c = search needs
-
 pub divide-leading-spec : {M : Type 1} → statement M
 divide-leading-spec =
     tie.close
     (tie.spec
     add-if2
     add-divide-shifted
-    sub-divide-shifted
+    (λ c. search needs)
     divide-shifted-requires
     round-quotient-requires
-    returns
+    (λ c. search needs)
     cut-short-requires
     round-quotient-requires-2
-    returns-2)
+    (λ c. search needs))

@@ -45,9 +45,6 @@ normalise-requires-2 c κs = let p = c .before .before .before .pre in (p .2, p 
 abbrev start : tie.After-normalise2 → tie.Start
 start c = c .before .before .before .before
 
-add-high : tie.Need-add-high
-add-high c = search needs
-
 high-most : (c : tie.After-normalise2) → start c .args .x .place + 101 + c .normalise2 .result .shift < 2 ^ 30
 high-most c = omega (arith, start c .pre .0 .place-most, c .normalise2 .ensures .shift-most)
 
@@ -80,9 +77,6 @@ divide-leading-requires c κs =
           ∙ quotient-exact scaled (x .place) (y .place) 101 0 (n .before .normalise .ensures) (n .normalise2 .ensures) (p .2),
     )
 
-returns-2 : tie.Need-returns-2
-returns-2 c = search needs
-
 pub quotient-spec : {M : Type 1} → statement M
 quotient-spec =
     tie.close
@@ -90,8 +84,8 @@ quotient-spec =
     returns
     normalise-requires
     normalise-requires-2
-    add-high
+    (λ c. search needs)
     add-high-2
     add-low
     divide-leading-requires
-    returns-2)
+    (λ c. search needs))

@@ -38,14 +38,8 @@ mul-more c = omega (arith, unit-most scaled (c .pre .0))
 mul-select : tie.Need-mul-select
 mul-select c = omega (arith, unit-most scaled (c .pre .0))
 
-select-requires : tie.Need-select-requires
-select-requires c κs = search needs
-
 add-divide : tie.Need-add-divide
 add-divide c = let s = c .before in omega (arith, s .pre .0 .most, s .pre .3)
-
-cast-divide : tie.Need-cast-divide
-cast-divide c = search needs
 
 add-divide-2 : tie.Need-add-divide-2
 add-divide-2 c = omega (arith, found c .most, c .before .pre .3)
@@ -69,9 +63,9 @@ cut-long-spec =
     (tie.spec
     mul-more
     mul-select
-    select-requires
+    (λ c κs. search needs)
     add-divide
-    cast-divide
+    (λ c. search needs)
     add-divide-2
     divide-requires
     returns)

@@ -13,12 +13,6 @@ returns c =
     let a = c .before .args in
     sym (ap (λ (n : ℕ). cutOf 10 7 (n * 10 ^ a .place) (10 ^ 0)) (c .if1 .taken) ∙ zero-cut (a .place))
 
-cast-normalise : tie.Need-cast-normalise
-cast-normalise c = search needs
-
-normalise-requires : tie.Need-normalise-requires
-normalise-requires c κs = search needs
-
 cast-t6 : tie.Need-cast-t6
 cast-t6 c = let n = c .before .normalise .ensures in omega (arith, n .leading .most)
 
@@ -32,4 +26,4 @@ returns-2 c =
     sym (shifted-cut (n .normalise .ensures) (s .args .place) (omega (arith, n .normalise .ensures .shift-most, s .pre .1)))
 
 pub extend-spec : {M : Type 1} → statement M
-extend-spec = tie.close (tie.spec returns cast-normalise normalise-requires cast-t6 sub-t7 returns-2)
+extend-spec = tie.close (tie.spec returns (λ c. search needs) (λ c κs. search needs) cast-t6 sub-t7 returns-2)

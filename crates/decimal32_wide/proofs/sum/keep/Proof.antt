@@ -5,11 +5,8 @@ use Rattle.decimal32_wide.proofs.Exact.{kept-cut}
 use Rattle.decimal32_wide.proofs.sum.keep.Statement.{statement}
 use Rattle.decimal32_wide.proofs.sum.keep.Tie as tie
 
-cast-t2 : tie.Need-cast-t2
-cast-t2 c = search needs
-
 returns : tie.Need-returns
 returns c = sym (kept-cut (c .args .n) (c .pre))
 
 pub keep-spec : {M : Type 1} → statement M
-keep-spec = tie.close (tie.spec cast-t2 returns)
+keep-spec = tie.close (tie.spec (λ c. search needs) returns)

@@ -9,12 +9,6 @@ use Rattle.decimal32_wide.proofs.Exact.{level-sum-cut}
 use Rattle.decimal32_wide.proofs.sum.level_sum.Statement.{statement}
 use Rattle.decimal32_wide.proofs.sum.level_sum.Tie as tie
 
-cast-v : tie.Need-cast-v
-cast-v c = search needs
-
-cast-add-signed : tie.Need-cast-add-signed
-cast-add-signed c = search needs
-
 small : (c : tie.Start) → c .args .x .significand + c .args .y .significand < 20000000
 small c = omega (arith, c .pre .0 .canonical .small, c .pre .1 .canonical .small)
 
@@ -24,20 +18,11 @@ add-signed-requires c κs = omega (arith, small (c .before .before))
 abbrev start : tie.After-add-signed → tie.Start
 start c = c .before .before .before
 
-extend-requires : tie.Need-extend-requires
-extend-requires c κs = search needs
-
 round-sum-requires : tie.Need-round-sum-requires
 round-sum-requires c κs =
     let a = c .before .before .before in
     let p = start a .pre in
     (scaled, p .0, p .1, level-sum-cut (p .0) (p .1) (p .2) (a .add-signed .ensures) (c .extend .ensures))
-
-returns : tie.Need-returns
-returns c = search needs
-
-keep-requires : tie.Need-keep-requires
-keep-requires c κs = search needs
 
 round-sum-requires-2 : tie.Need-round-sum-requires-2
 round-sum-requires-2 c κs =
@@ -51,9 +36,6 @@ round-sum-requires-2 c κs =
           (c .keep .ensures ∙ ap (λ (k : ℕ). cutOf 10 7 (a .add-signed .result .size * 10 ^ k) (10 ^ 0)) (sym (t .if3 .taken))),
     )
 
-returns-2 : tie.Need-returns-2
-returns-2 c = search needs
-
 cut-requires : tie.Need-cut-requires
 cut-requires c κs =
     let a = c .before in
@@ -66,22 +48,19 @@ round-sum-requires-3 c κs =
     let p = start a .pre in
     (scaled, p .0, p .1, level-sum-cut (p .0) (p .1) (p .2) (a .add-signed .ensures) (c .cut .ensures))
 
-returns-3 : tie.Need-returns-3
-returns-3 c = search needs
-
 pub level-sum-spec : {M : Type 1} → statement M
 level-sum-spec =
     tie.close
     (tie.spec
-    cast-v
-    cast-add-signed
+    (λ c. search needs)
+    (λ c. search needs)
     add-signed-requires
-    extend-requires
+    (λ c κs. search needs)
     round-sum-requires
-    returns
-    keep-requires
+    (λ c. search needs)
+    (λ c κs. search needs)
     round-sum-requires-2
-    returns-2
+    (λ c. search needs)
     cut-requires
     round-sum-requires-3
-    returns-3)
+    (λ c. search needs))

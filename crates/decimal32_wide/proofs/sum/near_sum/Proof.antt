@@ -10,23 +10,14 @@ use Rattle.decimal32_wide.proofs.Scales.{scaled}
 use Rattle.decimal32_wide.proofs.sum.near_sum.Statement.{statement}
 use Rattle.decimal32_wide.proofs.sum.near_sum.Tie as tie
 
-power-of-ten-requires : tie.Need-power-of-ten-requires
-power-of-ten-requires c κs = search needs
-
 unit : (c : tie.After-power-of-ten) → Unit decimal (c .power-of-ten .result) (c .before .args .gap)
 unit c = record { is = c .power-of-ten .ensures; most = c .before .pre .3 }
 
 most : (c : tie.After-power-of-ten) → c .before .args .x .significand * c .power-of-ten .result + c .before .args .y .significand < 100000000000000
 most c = let p = c .before .pre in near-most scaled (p .0) (p .1) (c .before .args .gap) (p .2) (c .power-of-ten .ensures) (p .3)
 
-cast-high : tie.Need-cast-high
-cast-high c = search needs
-
 mul-high : tie.Need-mul-high
 mul-high c = omega (arith, most (c .before))
-
-cast-add-signed : tie.Need-cast-add-signed
-cast-add-signed c = search needs
 
 add-signed-requires : tie.Need-add-signed-requires
 add-signed-requires c κs = omega (arith, most (c .before .before))
@@ -51,9 +42,6 @@ round-sum-requires c κs =
     let p = b .before .pre in
     (scaled, p .0, p .1, near-sum-cut scaled (p .0) (p .1) (b .before .args .gap) (p .2) (b .power-of-ten .ensures) (a .add-signed .ensures) (c .cut-long .ensures))
 
-returns : tie.Need-returns
-returns c = search needs
-
 cut-requires : tie.Need-cut-requires
 cut-requires c κs =
     let a = c .before in
@@ -67,22 +55,19 @@ round-sum-requires-2 c κs =
     let p = b .before .pre in
     (scaled, p .0, p .1, near-sum-cut scaled (p .0) (p .1) (b .before .args .gap) (p .2) (b .power-of-ten .ensures) (a .add-signed .ensures) (c .cut .ensures))
 
-returns-2 : tie.Need-returns-2
-returns-2 c = search needs
-
 pub near-sum-spec : {M : Type 1} → statement M
 near-sum-spec =
     tie.close
     (tie.spec
-    power-of-ten-requires
-    cast-high
+    (λ c κs. search needs)
+    (λ c. search needs)
     mul-high
-    cast-add-signed
+    (λ c. search needs)
     add-signed-requires
     mul-if1
     cut-long-requires
     round-sum-requires
-    returns
+    (λ c. search needs)
     cut-requires
     round-sum-requires-2
-    returns-2)
+    (λ c. search needs))

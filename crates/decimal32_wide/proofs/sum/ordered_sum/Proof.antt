@@ -6,22 +6,10 @@ use Rattle.decimal32_wide.proofs.Scales.{scaled}
 use Rattle.decimal32_wide.proofs.sum.ordered_sum.Statement.{statement}
 use Rattle.decimal32_wide.proofs.sum.ordered_sum.Tie as tie
 
-sub-gap : tie.Need-sub-gap
-sub-gap c = search needs
-
-near-sum-requires : tie.Need-near-sum-requires
-near-sum-requires c κs = search needs
-
-returns : tie.Need-returns
-returns c = search needs
-
 round-sum-requires : tie.Need-round-sum-requires
 round-sum-requires c κs =
     let s = c .before .before .before .before .before in
     (scaled, s .pre .0, s .pre .1, far-none scaled (s .args .y) (s .pre .0) (c .if2 .taken))
-
-returns-2 : tie.Need-returns-2
-returns-2 c = search needs
 
 far-sum-requires : tie.Need-far-sum-requires
 far-sum-requires c κs =
@@ -34,18 +22,15 @@ round-sum-requires-2 c κs =
     let p = c .before .before .before .before .before .before .pre in
     (scaled, p .0, p .1, c .far-sum .ensures)
 
-returns-3 : tie.Need-returns-3
-returns-3 c = search needs
-
 pub ordered-sum-spec : {M : Type 1} → statement M
 ordered-sum-spec =
     tie.close
     (tie.spec
-    sub-gap
-    near-sum-requires
-    returns
+    (λ c. search needs)
+    (λ c κs. search needs)
+    (λ c. search needs)
     round-sum-requires
-    returns-2
+    (λ c. search needs)
     far-sum-requires
     round-sum-requires-2
-    returns-3)
+    (λ c. search needs))

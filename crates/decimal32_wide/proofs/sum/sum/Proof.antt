@@ -12,12 +12,6 @@ use Rattle.decimal32_wide.specs.Scale.{decimal}
 use Rattle.decimal32_wide.proofs.sum.sum.Statement.{statement}
 use Rattle.decimal32_wide.proofs.sum.sum.Tie as tie
 
-level-sum-requires : tie.Need-level-sum-requires
-level-sum-requires c κs = search needs
-
-returns : tie.Need-returns
-returns c = search needs
-
 abbrev start : tie.Joined2 → tie.Start
 start c = c .before .before .before .before .before .before
 
@@ -51,4 +45,4 @@ unfolding summed
 returns-2 c = c .ordered-sum .ensures ∙ ap (deliveredZ 10 7 (start (c .before) .args .direction)) (ordered (c .before) .sum)
 
 pub sum-spec : {M : Type 1} → statement M
-sum-spec = tie.close (tie.spec level-sum-requires returns ordered-sum-requires returns-2)
+sum-spec = tie.close (tie.spec (λ c κs. search needs) (λ c. search needs) ordered-sum-requires returns-2)

@@ -18,21 +18,6 @@ returns c = order-binary _ _ _ Refused Passed (sym (refuted (λ h. c .if1 .taken
 returns-2 : tie.Need-returns-2
 returns-2 c = order-binary _ _ _ Refused Passed (sym (refuted (λ h. omega (arith, c .if2 .taken, is-binary (c .before .before .before .before .args .format) h .1))))
 
-compare-magnitudes-requires : tie.Need-compare-magnitudes-requires
-compare-magnitudes-requires c κs = search needs
-
-enum-told : tie.Need-enum-told
-enum-told c = search needs
-
-enum-told-2 : tie.Need-enum-told-2
-enum-told-2 c = search needs
-
-enum-told-3 : tie.Need-enum-told-3
-enum-told-3 c = search needs
-
-enum-known-why : tie.Need-enum-known-why
-enum-known-why c = search needs
-
 abbrev start : tie.Else2 → tie.Start
 start c = c .before .before .before .before
 
@@ -65,11 +50,11 @@ check-order-spec =
     (tie.spec
     returns
     returns-2
-    compare-magnitudes-requires
-    enum-told
-    enum-told-2
-    enum-told-3
-    enum-known-why
+    (λ c κs. search needs)
+    (λ c. search needs)
+    (λ c. search needs)
+    (λ c. search needs)
+    (λ c. search needs)
     returns-3
     returns-4
     returns-5

@@ -5,24 +5,6 @@ use Rattle.number.proofs.Entries.{prepared-entered}
 use Rattle.fast_two_sum.proofs.sum.enter_steps.Statement.{statement}
 use Rattle.fast_two_sum.proofs.sum.enter_steps.Tie as tie
 
-prepare-requires : tie.Need-prepare-requires
-prepare-requires c κs = search needs
-
-with-direction-requires : tie.Need-with-direction-requires
-with-direction-requires c κs = search needs
-
-with-direction-requires-2 : tie.Need-with-direction-requires-2
-with-direction-requires-2 c κs = search needs
-
-with-direction-requires-3 : tie.Need-with-direction-requires-3
-with-direction-requires-3 c κs = search needs
-
-with-number-requires : tie.Need-with-number-requires
-with-number-requires c κs = search needs
-
-with-number-requires-2 : tie.Need-with-number-requires-2
-with-number-requires-2 c κs = search needs
-
 returns : tie.Need-returns
 returns c =
     let n = c .before in
@@ -38,10 +20,10 @@ pub enter-steps-spec : {M : Type 1} → statement M
 enter-steps-spec =
     tie.close
     (tie.spec
-    prepare-requires
-    with-direction-requires
-    with-direction-requires-2
-    with-direction-requires-3
-    with-number-requires
-    with-number-requires-2
+    (λ c κs. search needs)
+    (λ c κs. search needs)
+    (λ c κs. search needs)
+    (λ c κs. search needs)
+    (λ c κs. search needs)
+    (λ c κs. search needs)
     returns)

@@ -17,15 +17,6 @@ use Rattle.fast_two_sum.proofs.Entered.{directed, prepared-member}
 use Rattle.fast_two_sum.proofs.sum.fast_two_sum.Statement.{statement}
 use Rattle.fast_two_sum.proofs.sum.fast_two_sum.Tie as tie
 
-enter-steps-requires : tie.Need-enter-steps-requires
-enter-steps-requires c κs = search needs
-
-enum-known-why : tie.Need-enum-known-why
-enum-known-why c = search needs
-
-enum-known-prepared : tie.Need-enum-known-prepared
-enum-known-prepared c = search needs
-
 -- ---- after the checks
 abbrev start : tie.After-prepared → tie.Start
 start c = c .before .before .before
@@ -35,12 +26,6 @@ ready c = passed _ _ _ (sym (c .before .before .enter-steps .ensures) ∙ c .pre
 
 check-order-requires : tie.Need-check-order-requires
 check-order-requires c κs = let p = ready (c .before) in let m = two-members p in (p .format, m .0, m .1)
-
-enum-known-why-2 : tie.Need-enum-known-why-2
-enum-known-why-2 c = search needs
-
-enum-told : tie.Need-enum-told
-enum-told c = search needs
 
 direction-of-requires : tie.Need-direction-of-requires
 direction-of-requires c κs = directed (ready (c .before .before .before .before)) .first
@@ -93,12 +78,12 @@ pub fast-two-sum-spec : {M : Type 1} → statement M
 fast-two-sum-spec =
     tie.close
     (tie.spec
-    enter-steps-requires
-    enum-known-why
-    enum-known-prepared
+    (λ c κs. search needs)
+    (λ c. search needs)
+    (λ c. search needs)
     check-order-requires
-    enum-known-why-2
-    enum-told
+    (λ c. search needs)
+    (λ c. search needs)
     direction-of-requires
     direction-of-requires-2
     direction-of-requires-3

@@ -8,12 +8,6 @@ use Rattle.fast_two_sum.specs.Calls.{then}
 use Rattle.fast_two_sum.proofs.sum.refused_step.Statement.{statement}
 use Rattle.fast_two_sum.proofs.sum.refused_step.Tie as tie
 
-enum-known-step : tie.Need-enum-known-step
-enum-known-step c = search needs
-
-enum-told : tie.Need-enum-told
-enum-told c = search needs
-
 returns : tie.Need-returns
 unfolding then
 returns c = sym (ap (λ (s : Answer). then s (λ x. Refused TooLarge)) (c .before .step .given .1))
@@ -23,4 +17,4 @@ unfolding then
 returns-2 c = sym (ap (λ (s : Answer). then s (λ x. Refused TooLarge)) (c .enum-told .given .1))
 
 pub refused-step-spec : {M : Type 1} → statement M
-refused-step-spec = tie.close (tie.spec enum-known-step enum-told returns returns-2)
+refused-step-spec = tie.close (tie.spec (λ c. search needs) (λ c. search needs) returns returns-2)

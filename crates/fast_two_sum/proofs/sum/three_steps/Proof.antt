@@ -14,18 +14,6 @@ use Rattle.fast_two_sum.proofs.Chain.{first-refused, second-refused, th
 use Rattle.fast_two_sum.proofs.sum.three_steps.Statement.{statement}
 use Rattle.fast_two_sum.proofs.sum.three_steps.Tie as tie
 
-add-requires : tie.Need-add-requires
-add-requires c κs = search needs
-
-enum-known-sum : tie.Need-enum-known-sum
-enum-known-sum c = search needs
-
-enum-told : tie.Need-enum-told
-enum-told c = search needs
-
-refused-step-requires : tie.Need-refused-step-requires
-refused-step-requires c κs = search needs
-
 returns : tie.Need-returns
 returns c =
     let k = c .before in
@@ -43,15 +31,6 @@ first-member c = rounded-member (known (start₁ c .pre .0) .admits) _ _ (first 
 
 subtract-requires : tie.Need-subtract-requires
 subtract-requires c κs = let k = c .before in (start₁ k .pre .0, first-member k, start₁ k .pre .1)
-
-enum-known-difference : tie.Need-enum-known-difference
-enum-known-difference c = search needs
-
-enum-told-2 : tie.Need-enum-told-2
-enum-told-2 c = search needs
-
-refused-step-requires-2 : tie.Need-refused-step-requires-2
-refused-step-requires-2 c κs = search needs
 
 returns-2 : tie.Need-returns-2
 returns-2 c =
@@ -73,15 +52,6 @@ second-member c = rounded-member (known (start₂ c .pre .0) .admits) _ _ (secon
 subtract-requires-2 : tie.Need-subtract-requires-2
 subtract-requires-2 c κs = let k = c .before in (start₂ k .pre .0, start₂ k .pre .2, second-member k)
 
-enum-known-rest : tie.Need-enum-known-rest
-enum-known-rest c = search needs
-
-enum-told-3 : tie.Need-enum-told-3
-enum-told-3 c = search needs
-
-refused-step-requires-3 : tie.Need-refused-step-requires-3
-refused-step-requires-3 c κs = search needs
-
 returns-3 : tie.Need-returns-3
 returns-3 c =
     let k = c .before in
@@ -101,19 +71,19 @@ pub three-steps-spec : {M : Type 1} → statement M
 three-steps-spec =
     tie.close
     (tie.spec
-    add-requires
-    enum-known-sum
-    enum-told
-    refused-step-requires
+    (λ c κs. search needs)
+    (λ c. search needs)
+    (λ c. search needs)
+    (λ c κs. search needs)
     returns
     subtract-requires
-    enum-known-difference
-    enum-told-2
-    refused-step-requires-2
+    (λ c. search needs)
+    (λ c. search needs)
+    (λ c κs. search needs)
     returns-2
     subtract-requires-2
-    enum-known-rest
-    enum-told-3
-    refused-step-requires-3
+    (λ c. search needs)
+    (λ c. search needs)
+    (λ c κs. search needs)
     returns-3
     returns-4)

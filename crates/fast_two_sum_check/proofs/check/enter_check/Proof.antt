@@ -3,18 +3,6 @@ use borrow.Author.Needs.{needs}
 use Rattle.fast_two_sum_check.proofs.check.enter_check.Statement.{statement}
 use Rattle.fast_two_sum_check.proofs.check.enter_check.Tie as tie
 
-enter-two-requires : tie.Need-enter-two-requires
-enter-two-requires c κs = search needs
-
-with-number-requires : tie.Need-with-number-requires
-with-number-requires c κs = search needs
-
-with-number-requires-2 : tie.Need-with-number-requires-2
-with-number-requires-2 c κs = search needs
-
-with-number-requires-3 : tie.Need-with-number-requires-3
-with-number-requires-3 c κs = search needs
-
 returns : tie.Need-returns
 returns c =
     let k = c .before in
@@ -24,4 +12,4 @@ returns c =
 pub enter-check-spec : {M : Type 1} → statement M
 enter-check-spec =
     tie.close
-    (tie.spec enter-two-requires with-number-requires with-number-requires-2 with-number-requires-3 returns)
+    (tie.spec (λ c κs. search needs) (λ c κs. search needs) (λ c κs. search needs) (λ c κs. search needs) returns)

@@ -9,9 +9,6 @@ use Rattle.fast_two_sum_check.specs.Calls.{isFaithful}
 use Rattle.fast_two_sum_check.proofs.check.is_faithful_difference.Statement.{statement}
 use Rattle.fast_two_sum_check.proofs.check.is_faithful_difference.Tie as tie
 
-with-sign-requires : tie.Need-with-sign-requires
-with-sign-requires c κs = search needs
-
 is-faithful-sum-requires : tie.Need-is-faithful-sum-requires
 is-faithful-sum-requires c κs =
     let s = c .before .before in
@@ -27,4 +24,4 @@ returns c =
     (turned-value (known (s .pre .0) .admits) (s .args .b) (s .pre .2) (c .before .with-sign .ensures))
 
 pub is-faithful-difference-spec : {M : Type 1} → statement M
-is-faithful-difference-spec = tie.close (tie.spec with-sign-requires is-faithful-sum-requires returns)
+is-faithful-difference-spec = tie.close (tie.spec (λ c κs. search needs) is-faithful-sum-requires returns)

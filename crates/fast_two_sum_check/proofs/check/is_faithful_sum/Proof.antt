@@ -14,9 +14,6 @@ admits c = known (c .pre .0) .admits
 inner : (c : tie.Start) → Member (c .args .prepared .format) (c .args .x)
 inner c = members _ (admits c) (c .pre .3)
 
-add-requires : tie.Need-add-requires
-add-requires c κs = search needs
-
 is-result-requires : tie.Need-is-result-requires
 is-result-requires c κs =
     let s = c .before in
@@ -27,9 +24,6 @@ returns c =
     let k = c .before in
     let s = k .before .before in
     down-decides (admits s) (inner s) _ (k .before .add .ensures) (sym (k .is-result .ensures) ∙ c .if1 .taken)
-
-add-requires-2 : tie.Need-add-requires-2
-add-requires-2 c κs = search needs
 
 is-result-requires-2 : tie.Need-is-result-requires-2
 is-result-requires-2 c κs =
@@ -45,4 +39,4 @@ returns-2 c =
 
 pub is-faithful-sum-spec : {M : Type 1} → statement M
 is-faithful-sum-spec =
-    tie.close (tie.spec add-requires is-result-requires returns add-requires-2 is-result-requires-2 returns-2)
+    tie.close (tie.spec (λ c κs. search needs) is-result-requires returns (λ c κs. search needs) is-result-requires-2 returns-2)

@@ -14,15 +14,6 @@ use Rattle.fast_two_sum_check.proofs.Entered.{five}
 use Rattle.fast_two_sum_check.proofs.check.is_fast_two_sum.Statement.{statement}
 use Rattle.fast_two_sum_check.proofs.check.is_fast_two_sum.Tie as tie
 
-enter-check-requires : tie.Need-enter-check-requires
-enter-check-requires c κs = search needs
-
-enum-known-why : tie.Need-enum-known-why
-enum-known-why c = search needs
-
-enum-known-prepared : tie.Need-enum-known-prepared
-enum-known-prepared c = search needs
-
 -- ---- after the checks
 abbrev start : tie.After-prepared → tie.Start
 start c = c .before .before .before
@@ -32,12 +23,6 @@ ready c = passed _ _ _ (sym (c .before .before .enter-check .ensures) ∙ c .pre
 
 check-order-requires : tie.Need-check-order-requires
 check-order-requires c κs = let p = ready (c .before) in let m = five p in (p .format, m .first, m .second)
-
-enum-known-why-2 : tie.Need-enum-known-why-2
-enum-known-why-2 c = search needs
-
-enum-told : tie.Need-enum-told
-enum-told c = search needs
 
 is-triple-requires : tie.Need-is-triple-requires
 is-triple-requires c κs =
@@ -93,12 +78,12 @@ pub is-fast-two-sum-spec : {M : Type 1} → statement M
 is-fast-two-sum-spec =
     tie.close
     (tie.spec
-    enter-check-requires
-    enum-known-why
-    enum-known-prepared
+    (λ c κs. search needs)
+    (λ c. search needs)
+    (λ c. search needs)
     check-order-requires
-    enum-known-why-2
-    enum-told
+    (λ c. search needs)
+    (λ c. search needs)
     is-triple-requires
     returns
     returns-2

@@ -6,12 +6,6 @@ use Rattle.fast_two_sum_check.specs.Calls.{isResult}
 use Rattle.fast_two_sum_check.proofs.check.is_result.Statement.{statement}
 use Rattle.fast_two_sum_check.proofs.check.is_result.Tie as tie
 
-enum-told : tie.Need-enum-told
-enum-told c = search needs
-
-enum-known-step : tie.Need-enum-known-step
-enum-known-step c = search needs
-
 same-value-requires : tie.Need-same-value-requires
 same-value-requires c κs =
     let k = c .before in
@@ -32,4 +26,4 @@ returns-2 c =
     c .same-value .ensures ∙ sym (ap (λ (a : Answer). isResult (s .format) a (s .x)) (k .step .given .1))
 
 pub is-result-spec : {M : Type 1} → statement M
-is-result-spec = tie.close (tie.spec enum-told enum-known-step same-value-requires returns returns-2)
+is-result-spec = tie.close (tie.spec (λ c. search needs) (λ c. search needs) same-value-requires returns returns-2)

@@ -7,9 +7,6 @@ use Rattle.fast_two_sum_check.specs.Calls.{isTriple}
 use Rattle.fast_two_sum_check.proofs.check.is_triple.Statement.{statement}
 use Rattle.fast_two_sum_check.proofs.check.is_triple.Tie as tie
 
-is-faithful-sum-requires : tie.Need-is-faithful-sum-requires
-is-faithful-sum-requires c κs = search needs
-
 returns : tie.Need-returns
 unfolding isTriple
 returns c = refuted (λ h. never (sym (and-left _ _ h) ∙ denied (c .before .is-faithful-sum .ensures) (c .if1 .taken)))
@@ -37,7 +34,7 @@ pub is-triple-spec : {M : Type 1} → statement M
 is-triple-spec =
     tie.close
     (tie.spec
-    is-faithful-sum-requires
+    (λ c κs. search needs)
     returns
     is-faithful-difference-requires
     returns-2

@@ -9,21 +9,6 @@ use Rattle.number.proofs.Comparison.{less-says, equal-says, greater-says, never
 use Rattle.fast_two_sum_check.proofs.check.same_value.Statement.{statement}
 use Rattle.fast_two_sum_check.proofs.check.same_value.Tie as tie
 
-compare-values-requires : tie.Need-compare-values-requires
-compare-values-requires c κs = search needs
-
-enum-told : tie.Need-enum-told
-enum-told c = search needs
-
-enum-told-2 : tie.Need-enum-told-2
-enum-told-2 c = search needs
-
-enum-told-3 : tie.Need-enum-told-3
-enum-told-3 c = search needs
-
-enum-told-4 : tie.Need-enum-told-4
-enum-told-4 c = search needs
-
 returns : tie.Need-returns
 returns c =
     let k = c .before .before in
@@ -49,4 +34,4 @@ returns-4 c =
 pub same-value-spec : {M : Type 1} → statement M
 same-value-spec =
     tie.close
-    (tie.spec compare-values-requires enum-told enum-told-2 enum-told-3 enum-told-4 returns returns-2 returns-3 returns-4)
+    (tie.spec (λ c κs. search needs) (λ c. search needs) (λ c. search needs) (λ c. search needs) (λ c. search needs) returns returns-2 returns-3 returns-4)

@@ -6,9 +6,6 @@ use Rattle.format.specs.Formats.{formatChecked}
 use Rattle.format.proofs.admission.check_format.Statement.{statement}
 use Rattle.format.proofs.admission.check_format.Tie as tie
 
-is-admitted-requires : tie.Need-is-admitted-requires
-is-admitted-requires c κs = search needs
-
 returns : tie.Need-returns
 unfolding formatChecked
 returns c = sym (unless-passed _ _ (sym (c .before .is-admitted .ensures) ∙ c .if1 .taken))
@@ -18,4 +15,4 @@ unfolding formatChecked
 returns-2 c = sym (unless-failed _ _ (sym (c .before .is-admitted .ensures) ∙ c .if1 .left))
 
 pub check-format-spec : {M : Type 1} → statement M
-check-format-spec = tie.close (tie.spec is-admitted-requires returns returns-2)
+check-format-spec = tie.close (tie.spec (λ c κs. search needs) returns returns-2)

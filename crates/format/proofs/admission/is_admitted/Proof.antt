@@ -41,15 +41,9 @@ returns-3 c = refuted (λ h. let a = admits _ h in omega arith)
 returns-4 : tie.Need-returns-4
 returns-4 c = refuted (λ h. let a = admits _ h in omega arith)
 
-fits-requires : tie.Need-fits-requires
-fits-requires c κs = search needs
-
 returns-5 : tie.Need-returns-5
 returns-5 c =
     refuted (λ h. never (sym (le-leb _ _ (admits _ h .power-high)) ∙ denied (c .before .fits2 .ensures) (c .if5 .taken)))
-
-exponents-admitted-requires : tie.Need-exponents-admitted-requires
-exponents-admitted-requires c κs = search needs
 
 returns-6 : tie.Need-returns-6
 returns-6 c =
@@ -70,7 +64,7 @@ is-admitted-spec =
     returns-2
     returns-3
     returns-4
-    fits-requires
+    (λ c κs. search needs)
     returns-5
-    exponents-admitted-requires
+    (λ c κs. search needs)
     returns-6)

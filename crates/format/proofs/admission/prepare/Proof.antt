@@ -29,9 +29,6 @@ worked-out : (f : Format) → Admitted f → (full highest : ℕ) → full ≡ f
     → record { format = f; scale = record { base = f .base; digits = f .digits; full = full; top = full * f .base }; highest = highest } ≡ preparedOf f
 worked-out f a full highest e h = rw (e, h, top-full a)
 
-is-admitted-requires : tie.Need-is-admitted-requires
-is-admitted-requires c κs = search needs
-
 returns : tie.Need-returns
 unfolding preparation
 returns c = sym (unless-failed _ _ (denied (c .before .is-admitted .ensures) (c .if1 .taken)))
@@ -64,4 +61,4 @@ returns-2 c =
 pub prepare-spec : {M : Type 1} → statement M
 prepare-spec =
     tie.close
-    (tie.spec is-admitted-requires returns sub-power power-requires mul-t9 distance-requires returns-2)
+    (tie.spec (λ c κs. search needs) returns sub-power power-requires mul-t9 distance-requires returns-2)

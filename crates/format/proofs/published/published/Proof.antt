@@ -10,19 +10,10 @@ returns c = published-below _ (c .if1 .taken)
 returns-2 : tie.Need-returns-2
 returns-2 c = published-above _ (c .if2 .taken)
 
-cast-at : tie.Need-cast-at
-cast-at c = search needs
-
-mul-format : tie.Need-mul-format
-mul-format c = search needs
-
-array-copy-out-format : tie.Need-array-copy-out-format
-array-copy-out-format c = search needs
-
 returns-3 : tie.Need-returns-3
 returns-3 c = published-entry _ _ (c .before .before .if1 .left) (c .before .if2 .left)
 
 pub published-spec : {M : Type 1} → statement M
 published-spec =
     tie.close
-    (tie.spec returns returns-2 cast-at mul-format array-copy-out-format returns-3)
+    (tie.spec returns returns-2 (λ c. search needs) (λ c. search needs) (λ c. search needs) returns-3)

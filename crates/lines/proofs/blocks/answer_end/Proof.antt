@@ -17,12 +17,6 @@ returns c =
     let l = c .before .before .before .args .line in
     put-as (ap (λ (t : Bool). cond t [] (textOf l ++ lineFeed)) (sym (eq-eqb _ _ (c .if1 .taken)))) (record { ends = omega arith; holds = refl })
 
-put-line-requires : tie.Need-put-line-requires
-put-line-requires c κs = search needs
-
-same-length : tie.Need-same-length
-same-length c = search needs
-
 returns-2 : tie.Need-returns-2
 unfolding endText
 returns-2 c =
@@ -32,4 +26,4 @@ returns-2 c =
     put-as (ap (λ (t : Bool). cond t [] (textOf l ++ lineFeed)) (sym (ne-eqb _ _ (e .if1 .left)))) (p .put-line .ensures)
 
 pub answer-end-spec : {M : Type 1} → statement M
-answer-end-spec = tie.close (tie.spec returns put-line-requires same-length returns-2)
+answer-end-spec = tie.close (tie.spec returns (λ c κs. search needs) (λ c. search needs) returns-2)

@@ -25,15 +25,6 @@ returns : tie.Need-returns
 unfolding answerLine
 returns c = rw (lt-ltb _ _ (c .if1 .taken))
 
-read-line-requires : tie.Need-read-line-requires
-read-line-requires c κs = search needs
-
-put-line-requires : tie.Need-put-line-requires
-put-line-requires c κs = search needs
-
-same-length : tie.Need-same-length
-same-length c = search needs
-
 returns-2 : tie.Need-returns-2
 returns-2 c =
     let p = c .before .before in
@@ -44,4 +35,4 @@ returns-2 c =
 
 pub answer-line-spec : {M : Type 1} → statement M
 answer-line-spec =
-    tie.close (tie.spec returns read-line-requires put-line-requires same-length returns-2)
+    tie.close (tie.spec returns (λ c κs. search needs) (λ c κs. search needs) (λ c. search needs) returns-2)

@@ -20,18 +20,6 @@ digits c j =
     let s = c .before .before .before .before in
     digits-are (s .args .input .now) (s .args .i) (s .pre .1) (c .before .word-at .ensures) (c .values .ensures .1) ∙ ap digitsOf (sym (read c j))
 
-word-at-requires : tie.Need-word-at-requires
-word-at-requires c κs = search needs
-
-values-requires : tie.Need-values-requires
-values-requires c κs = search needs
-
-is-common-requires : tie.Need-is-common-requires
-is-common-requires c κs = search needs
-
-pattern-of-requires : tie.Need-pattern-of-requires
-pattern-of-requires c κs = search needs
-
 put-common-requires : tie.Need-put-common-requires
 put-common-requires c κs =
     let t = c .before .before in
@@ -40,23 +28,11 @@ put-common-requires c κs =
     let d = digits v (c .pattern-of .ensures) in
     (s .pre .0, d, t .before .is-common .ensures (t .if1 .taken) (c .pattern-of .result) (search needs) d)
 
-same-length : tie.Need-same-length
-same-length c = search needs
-
 returns : tie.Need-returns
 returns c =
     let p = c .before .before in
     let r = p .before in
     put-as (ap (λ (n : ℕ). patternText n ++ lineFeed) (read (r .before .before .before .before) (r .pattern-of .ensures))) (p .put-common .ensures)
-
-pattern-of-requires-2 : tie.Need-pattern-of-requires-2
-pattern-of-requires-2 c κs = search needs
-
-put-pattern-requires : tie.Need-put-pattern-requires
-put-pattern-requires c κs = search needs
-
-same-length-2 : tie.Need-same-length-2
-same-length-2 c = search needs
 
 returns-2 : tie.Need-returns-2
 returns-2 c =
@@ -68,14 +44,14 @@ pub answer-pattern-spec : {M : Type 1} → statement M
 answer-pattern-spec =
     tie.close
     (tie.spec
-    word-at-requires
-    values-requires
-    is-common-requires
-    pattern-of-requires
+    (λ c κs. search needs)
+    (λ c κs. search needs)
+    (λ c κs. search needs)
+    (λ c κs. search needs)
     put-common-requires
-    same-length
+    (λ c. search needs)
     returns
-    pattern-of-requires-2
-    put-pattern-requires
-    same-length-2
+    (λ c κs. search needs)
+    (λ c κs. search needs)
+    (λ c. search needs)
     returns-2)

@@ -14,32 +14,11 @@ returns c = λ e. absurd (never (sym e))
 returns-2 : tie.Need-returns-2
 returns-2 c = λ e. absurd (never (sym e))
 
-sub-if3 : tie.Need-sub-if3
-sub-if3 c = search needs
-
 returns-3 : tie.Need-returns-3
 returns-3 c = λ e. absurd (never (sym e))
 
-add-if4 : tie.Need-add-if4
-add-if4 c = search needs
-
-shared-slice-read-if4 : tie.Need-shared-slice-read-if4
-shared-slice-read-if4 c = search needs
-
 returns-4 : tie.Need-returns-4
 returns-4 c = λ e. absurd (never (sym e))
-
-word-at-requires : tie.Need-word-at-requires
-word-at-requires c κs = search needs
-
-values-requires : tie.Need-values-requires
-values-requires c κs = search needs
-
-letters-requires : tie.Need-letters-requires
-letters-requires c κs = search needs
-
-lower-case-requires : tie.Need-lower-case-requires
-lower-case-requires c κs = search needs
 
 returns-5 : tie.Need-returns-5
 returns-5 c =
@@ -68,13 +47,13 @@ pattern-next-spec =
     (tie.spec
     returns
     returns-2
-    sub-if3
+    (λ c. search needs)
     returns-3
-    add-if4
-    shared-slice-read-if4
+    (λ c. search needs)
+    (λ c. search needs)
     returns-4
-    word-at-requires
-    values-requires
-    letters-requires
-    lower-case-requires
+    (λ c κs. search needs)
+    (λ c κs. search needs)
+    (λ c κs. search needs)
+    (λ c κs. search needs)
     returns-5)

@@ -21,9 +21,6 @@ exponent-at-requires c κs =
     let k = known (s .pre .0) in
     rw (back (emin-fits s)) (emin-admitted (k .admits), omega (arith, s .pre .2, k .highest, highest-most (k .admits)))
 
-with-sign-requires : tie.Need-with-sign-requires
-with-sign-requires c κs = search needs
-
 returns : tie.Need-returns
 returns c =
     let s = c .before .before .before in
@@ -35,4 +32,4 @@ returns c =
     ∙ sym (number-canonical (k .admits) (s .pre .1) (s .args .negative))
 
 pub number-at-spec : {M : Type 1} → statement M
-number-at-spec = tie.close (tie.spec exponent-at-requires with-sign-requires returns)
+number-at-spec = tie.close (tie.spec exponent-at-requires (λ c κs. search needs) returns)

@@ -5,15 +5,6 @@ use Rattle.number.proofs.Entries.{passed, refused}
 use Rattle.number.proofs.entry.check_number.Statement.{statement}
 use Rattle.number.proofs.entry.check_number.Tie as tie
 
-enter-requires : tie.Need-enter-requires
-enter-requires c κs = search needs
-
-enum-known-why : tie.Need-enum-known-why
-enum-known-why c = search needs
-
-enum-told : tie.Need-enum-told
-enum-told c = search needs
-
 returns : tie.Need-returns
 returns c = sym (refused _ _ _ (sym (c .before .before .before .enter .ensures) ∙ c .before .why .given .1))
 
@@ -21,4 +12,4 @@ returns-2 : tie.Need-returns-2
 returns-2 c = sym (passed _ _ _ (sym (c .before .before .enter .ensures) ∙ c .enum-told .given .1) .verdict)
 
 pub check-number-spec : {M : Type 1} → statement M
-check-number-spec = tie.close (tie.spec enter-requires enum-known-why enum-told returns returns-2)
+check-number-spec = tie.close (tie.spec (λ c κs. search needs) (λ c. search needs) (λ c. search needs) returns returns-2)

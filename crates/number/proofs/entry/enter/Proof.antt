@@ -5,14 +5,8 @@ use Rattle.number.proofs.Entries.{prepared-entered}
 use Rattle.number.proofs.entry.enter.Statement.{statement}
 use Rattle.number.proofs.entry.enter.Tie as tie
 
-prepare-requires : tie.Need-prepare-requires
-prepare-requires c κs = search needs
-
-with-number-requires : tie.Need-with-number-requires
-with-number-requires c κs = search needs
-
 returns : tie.Need-returns
 returns c = c .with-number .ensures _ _ _ (c .before .prepare .ensures ∙ prepared-entered _)
 
 pub enter-spec : {M : Type 1} → statement M
-enter-spec = tie.close (tie.spec prepare-requires with-number-requires returns)
+enter-spec = tie.close (tie.spec (λ c κs. search needs) (λ c κs. search needs) returns)

@@ -3,14 +3,8 @@ use borrow.Author.Needs.{needs}
 use Rattle.number.proofs.entry.enter_two.Statement.{statement}
 use Rattle.number.proofs.entry.enter_two.Tie as tie
 
-enter-requires : tie.Need-enter-requires
-enter-requires c κs = search needs
-
-with-number-requires : tie.Need-with-number-requires
-with-number-requires c κs = search needs
-
 returns : tie.Need-returns
 returns c = c .with-number .ensures _ _ _ (c .before .enter .ensures)
 
 pub enter-two-spec : {M : Type 1} → statement M
-enter-two-spec = tie.close (tie.spec enter-requires with-number-requires returns)
+enter-two-spec = tie.close (tie.spec (λ c κs. search needs) (λ c κs. search needs) returns)

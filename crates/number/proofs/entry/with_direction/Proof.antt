@@ -7,15 +7,6 @@ use Rattle.number.proofs.Entries.{direction-after}
 use Rattle.number.proofs.entry.with_direction.Statement.{statement}
 use Rattle.number.proofs.entry.with_direction.Tie as tie
 
-enum-known-before : tie.Need-enum-known-before
-enum-known-before c = search needs
-
-enum-known-before-2 : tie.Need-enum-known-before-2
-enum-known-before-2 c = search needs
-
-is-direction-requires : tie.Need-is-direction-requires
-is-direction-requires c κs = search needs
-
 returns : tie.Need-returns
 unfolding unless
 returns c f ds h = direction-after (c .before .before .before .before3 .given .1) f ds _ h (denied (c .before .is-direction .ensures) (c .if1 .taken))
@@ -30,4 +21,4 @@ returns-3 c f ds h = direction-after (c .before .before .before .before3 .given 
 pub with-direction-spec : {M : Type 1} → statement M
 with-direction-spec =
     tie.close
-    (tie.spec enum-known-before enum-known-before-2 is-direction-requires returns returns-2 returns-3)
+    (tie.spec (λ c. search needs) (λ c. search needs) (λ c κs. search needs) returns returns-2 returns-3)

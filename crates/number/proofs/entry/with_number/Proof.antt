@@ -7,15 +7,6 @@ use Rattle.number.proofs.Entries.{passed, number-after}
 use Rattle.number.proofs.entry.with_number.Statement.{statement}
 use Rattle.number.proofs.entry.with_number.Tie as tie
 
-enum-known-before : tie.Need-enum-known-before
-enum-known-before c = search needs
-
-enum-known-before-2 : tie.Need-enum-known-before-2
-enum-known-before-2 c = search needs
-
-is-member-requires : tie.Need-is-member-requires
-is-member-requires c κs = search needs
-
 returns : tie.Need-returns
 unfolding unless
 returns c f ds xs h =
@@ -36,4 +27,4 @@ returns-3 c f ds xs h =
 pub with-number-spec : {M : Type 1} → statement M
 with-number-spec =
     tie.close
-    (tie.spec enum-known-before enum-known-before-2 is-member-requires returns returns-2 returns-3)
+    (tie.spec (λ c. search needs) (λ c. search needs) (λ c κs. search needs) returns returns-2 returns-3)

@@ -22,9 +22,6 @@ fit c =
     let s = sum-parts (c .args .emin) (pos (c .args .place)) in
     fits z (omega (arith, c .pre .1, apart z, apart (c .args .emin))) (omega (arith, c .pre .1, apart z, apart (c .args .emin)))
 
-cast-result : tie.Need-cast-result
-cast-result c = search needs
-
 add-result : tie.Need-add-result
 add-result c = rw (back (c .fits .emin), small c) (fit c)
 
@@ -32,4 +29,4 @@ returns : tie.Need-returns
 returns c = rw (back (c .fits .emin), small c) (back (fit c))
 
 pub exponent-at-spec : {M : Type 1} → statement M
-exponent-at-spec = tie.close (tie.spec cast-result add-result returns)
+exponent-at-spec = tie.close (tie.spec (λ c. search needs) add-result returns)

@@ -6,15 +6,6 @@ use Rattle.number.proofs.Entries.{passed, two-members, goes-on, ends}
 use Rattle.number.proofs.order.compare.Statement.{statement}
 use Rattle.number.proofs.order.compare.Tie as tie
 
-enter-two-requires : tie.Need-enter-two-requires
-enter-two-requires c κs = search needs
-
-enum-known-why : tie.Need-enum-known-why
-enum-known-why c = search needs
-
-enum-told : tie.Need-enum-told
-enum-told c = search needs
-
 compare-values-requires : tie.Need-compare-values-requires
 compare-values-requires c κs =
     let p = passed _ _ _ (sym (c .before .before .enter-two .ensures) ∙ c .enum-told .given .1) in
@@ -33,4 +24,4 @@ returns-2 c =
 
 pub compare-spec : {M : Type 1} → statement M
 compare-spec =
-    tie.close (tie.spec enter-two-requires enum-known-why enum-told compare-values-requires returns returns-2)
+    tie.close (tie.spec (λ c κs. search needs) (λ c. search needs) (λ c. search needs) compare-values-requires returns returns-2)

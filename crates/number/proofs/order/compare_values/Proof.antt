@@ -19,9 +19,6 @@ by-signs : (f : Format) (a b : Number) {s t : Bool} → a .negative ≡ s → b 
 unfolding value
 by-signs f a b h k = rw (h, k)
 
-compare-magnitudes-requires : tie.Need-compare-magnitudes-requires
-compare-magnitudes-requires c κs = search needs
-
 returns : tie.Need-returns
 returns c =
     let s = c .before .before .before .args in
@@ -43,9 +40,6 @@ returns-3 c =
     positive-greater _ _ (negative-size ok (members _ ok (p .pre .2)) (c .if3 .taken))
     ∙ by-signs (s .format) (s .a) (s .b) (c .before .if1 .left) (c .if3 .taken)
 
-compare-magnitudes-requires-2 : tie.Need-compare-magnitudes-requires-2
-compare-magnitudes-requires-2 c κs = search needs
-
 returns-4 : tie.Need-returns-4
 returns-4 c =
     let s = c .before .before .before .args in
@@ -54,4 +48,4 @@ returns-4 c =
 pub compare-values-spec : {M : Type 1} → statement M
 compare-values-spec =
     tie.close
-    (tie.spec compare-magnitudes-requires returns returns-2 returns-3 compare-magnitudes-requires-2 returns-4)
+    (tie.spec (λ c κs. search needs) returns returns-2 returns-3 (λ c κs. search needs) returns-4)

@@ -10,18 +10,6 @@ use Rattle.number.proofs.Entries.{passed, one-member, goes-on, ends}
 use Rattle.number.proofs.signs.negate.Statement.{statement}
 use Rattle.number.proofs.signs.negate.Tie as tie
 
-enter-requires : tie.Need-enter-requires
-enter-requires c κs = search needs
-
-enum-known-why : tie.Need-enum-known-why
-enum-known-why c = search needs
-
-enum-told : tie.Need-enum-told
-enum-told c = search needs
-
-with-sign-requires : tie.Need-with-sign-requires
-with-sign-requires c κs = search needs
-
 returns : tie.Need-returns
 unfolding negated
 returns c = ends _ _ _ _ _ (sym (c .before .before .before .enter .ensures) ∙ c .before .why .given .1)
@@ -36,4 +24,4 @@ returns-2 c =
     ap Value (c .with-sign .ensures ∙ sym (number-of ok (members _ ok (one-member p)) _)) ∙ goes-on _ _ _ _ _ h
 
 pub negate-spec : {M : Type 1} → statement M
-negate-spec = tie.close (tie.spec enter-requires enum-known-why enum-told with-sign-requires returns returns-2)
+negate-spec = tie.close (tie.spec (λ c κs. search needs) (λ c. search needs) (λ c. search needs) (λ c κs. search needs) returns returns-2)

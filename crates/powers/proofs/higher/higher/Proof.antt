@@ -20,15 +20,6 @@ inside c = omega (arith, room (c .args .k) (c .pre .1) (exponent c), base c)
 begins : (o i : ℕ) → o + i < 89 → o < 2 ^ 64
 begins o i h = omega arith
 
-sub-from : tie.Need-sub-from
-sub-from c = search needs
-
-cast-from : tie.Need-cast-from
-cast-from c = search needs
-
-mul-from : tie.Need-mul-from
-mul-from c = search needs
-
 array-read-from : tie.Need-array-read-from
 array-read-from c = omega (arith, exponent c)
 
@@ -51,9 +42,9 @@ pub higher-spec : {M : Type 1} → statement M
 higher-spec =
     tie.close
     (tie.spec
-    sub-from
-    cast-from
-    mul-from
+    (λ c. search needs)
+    (λ c. search needs)
+    (λ c. search needs)
     array-read-from
     cast-result
     add-result

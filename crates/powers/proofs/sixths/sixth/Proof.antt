@@ -5,14 +5,8 @@ use Rattle.powers.proofs.Tables.{row-entry}
 use Rattle.powers.proofs.sixths.sixth.Statement.{statement}
 use Rattle.powers.proofs.sixths.sixth.Tie as tie
 
-mul-result : tie.Need-mul-result
-mul-result c = search needs
-
-array-read-result : tie.Need-array-read-result
-array-read-result c = search needs
-
 returns : tie.Need-returns
 returns c = row-entry 6 2 34 (c .args .at) [] (search needs)
 
 pub sixth-spec : {M : Type 1} → statement M
-sixth-spec = tie.close (tie.spec mul-result array-read-result returns)
+sixth-spec = tie.close (tie.spec (λ c. search needs) (λ c. search needs) returns)

@@ -5,14 +5,8 @@ use Rattle.powers.proofs.Tables.{row-entry}
 use Rattle.powers.proofs.squares.square.Statement.{statement}
 use Rattle.powers.proofs.squares.square.Tie as tie
 
-mul-result : tie.Need-mul-result
-mul-result c = search needs
-
-array-read-result : tie.Need-array-read-result
-array-read-result c = search needs
-
 returns : tie.Need-returns
 returns c = row-entry 2 2 255 (c .args .at) [] (search needs)
 
 pub square-spec : {M : Type 1} → statement M
-square-spec = tie.close (tie.spec mul-result array-read-result returns)
+square-spec = tie.close (tie.spec (λ c. search needs) (λ c. search needs) returns)

@@ -3,11 +3,8 @@ use borrow.Author.Needs.{needs}
 use Rattle.prepared_arithmetic.proofs.operands.deliver_wide.Statement.{statement}
 use Rattle.prepared_arithmetic.proofs.operands.deliver_wide.Tie as tie
 
-deliver-requires : tie.Need-deliver-requires
-deliver-requires c κs = search needs
-
 returns : tie.Need-returns
 returns c = c .deliver .ensures
 
 pub deliver-wide-spec : {M : Type 1} → statement M
-deliver-wide-spec = tie.close (tie.spec deliver-requires returns)
+deliver-wide-spec = tie.close (tie.spec (λ c κs. search needs) returns)

@@ -17,15 +17,6 @@ use Rattle.prepared_arithmetic.proofs.product.multiply.Tie as tie
 emin-fits : (c : tie.Start) → SFits w32 (c .args .prepared .format .emin)
 emin-fits c = search needs
 
-wide-of-requires : tie.Need-wide-of-requires
-wide-of-requires c κs = search needs
-
-wide-of-requires-2 : tie.Need-wide-of-requires-2
-wide-of-requires-2 c κs = search needs
-
-above-zero-requires : tie.Need-above-zero-requires
-above-zero-requires c κs = search needs
-
 abbrev start : tie.After-wide-of2 → tie.Start
 start c = c .before .before .before
 
@@ -75,9 +66,9 @@ pub multiply-spec : {M : Type 1} → statement M
 multiply-spec =
     tie.close
     (tie.spec
-    wide-of-requires
-    wide-of-requires-2
-    above-zero-requires
+    (λ c κs. search needs)
+    (λ c κs. search needs)
+    (λ c κs. search needs)
     below-zero-requires
     product-requires
     deliver-wide-requires

@@ -18,15 +18,6 @@ use Rattle.prepared_arithmetic.proofs.quotient.divide.Tie as tie
 emin-fits : (c : tie.Start) → SFits w32 (c .args .prepared .format .emin)
 emin-fits c = search needs
 
-wide-of-requires : tie.Need-wide-of-requires
-wide-of-requires c κs = search needs
-
-wide-of-requires-2 : tie.Need-wide-of-requires-2
-wide-of-requires-2 c κs = search needs
-
-above-zero-requires : tie.Need-above-zero-requires
-above-zero-requires c κs = search needs
-
 abbrev start : tie.After-wide-of2 → tie.Start
 start c = c .before .before .before .before .before
 
@@ -85,10 +76,10 @@ divide-spec =
     tie.close
     (tie.spec
     returns
-    wide-of-requires
-    wide-of-requires-2
+    (λ c κs. search needs)
+    (λ c κs. search needs)
     below-zero-requires
-    above-zero-requires
+    (λ c κs. search needs)
     quotient-requires
     deliver-wide-requires
     returns-2)

@@ -7,12 +7,6 @@ use Rattle.prepared_arithmetic.proofs.Prepared.{Delivers, scale-scaled,
 use Rattle.prepared_arithmetic.proofs.sum.add.Statement.{statement}
 use Rattle.prepared_arithmetic.proofs.sum.add.Tie as tie
 
-wide-of-requires : tie.Need-wide-of-requires
-wide-of-requires c κs = search needs
-
-wide-of-requires-2 : tie.Need-wide-of-requires-2
-wide-of-requires-2 c κs = search needs
-
 abbrev start : tie.After-wide-of2 → tie.Start
 start c = c .before .before .before
 
@@ -42,4 +36,4 @@ returns c = c .deliver-wide .ensures ∙ result (c .before) .is
 pub add-spec : {M : Type 1} → statement M
 add-spec =
     tie.close
-    (tie.spec wide-of-requires wide-of-requires-2 sum-requires deliver-wide-requires returns)
+    (tie.spec (λ c κs. search needs) (λ c κs. search needs) sum-requires deliver-wide-requires returns)

@@ -10,9 +10,6 @@ use Rattle.prepared_arithmetic.proofs.Prepared.{turned-member, turned-v
 use Rattle.prepared_arithmetic.proofs.sum.subtract.Statement.{statement}
 use Rattle.prepared_arithmetic.proofs.sum.subtract.Tie as tie
 
-with-sign-requires : tie.Need-with-sign-requires
-with-sign-requires c κs = search needs
-
 add-requires : tie.Need-add-requires
 add-requires c κs =
     let s = c .before .before in
@@ -28,4 +25,4 @@ returns c =
     (turned-value (known (s .pre .0) .admits) (s .args .b) (s .pre .2) (c .before .with-sign .ensures))
 
 pub subtract-spec : {M : Type 1} → statement M
-subtract-spec = tie.close (tie.spec with-sign-requires add-requires returns)
+subtract-spec = tie.close (tie.spec (λ c κs. search needs) add-requires returns)

@@ -16,9 +16,6 @@ returns c =
     sym (ap (λ (n : ℕ). cutOf (a .scale .base) (a .scale .digits) (n * a .scale .base ^ a .up) (a .scale .base ^ a .down)) (c .if1 .taken)
     ∙ cut-zero (positional (s .pre .0)) (a .up) (a .down))
 
-digit-count-requires : tie.Need-digit-count-requires
-digit-count-requires c κs = search needs
-
 count : (c : tie.After-digit-count) → c .digit-count .result ≤ 2 * c .before .before .args .scale .digits
 count c = count-most (c .before .before .pre .0) (c .digit-count .ensures .above) (c .before .before .pre .1)
 
@@ -30,15 +27,6 @@ add-low c = let s = c .before .before in omega (arith, s .pre, digits-most (s .p
 
 cut-small-requires : tie.Need-cut-small-requires
 cut-small-requires c κs = let d = c .before in (d .before .before .pre .0, d .digit-count .ensures, count d, omega arith)
-
-returns-2 : tie.Need-returns-2
-returns-2 c = search needs
-
-sub-place : tie.Need-sub-place
-sub-place c = search needs
-
-sub-extend : tie.Need-sub-extend
-sub-extend c = search needs
 
 extend-requires : tie.Need-extend-requires
 extend-requires c κs =
@@ -82,13 +70,13 @@ cut-spec =
     tie.close
     (tie.spec
     returns
-    digit-count-requires
+    (λ c κs. search needs)
     add-high
     add-low
     cut-small-requires
-    returns-2
-    sub-place
-    sub-extend
+    (λ c. search needs)
+    (λ c. search needs)
+    (λ c. search needs)
     extend-requires
     power-requires
     divide-requires

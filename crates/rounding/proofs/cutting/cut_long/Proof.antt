@@ -11,16 +11,10 @@ use Rattle.rounding.proofs.Places.{Beyond, beyond-at, beyond-unit, beyo
 use Rattle.rounding.proofs.cutting.cut_long.Statement.{statement}
 use Rattle.rounding.proofs.cutting.cut_long.Tie as tie
 
-cast-if1 : tie.Need-cast-if1
-cast-if1 c = search needs
-
 mul-if1 : tie.Need-mul-if1
 mul-if1 c =
     let p = c .before .pre in
     omega (arith, mul-le-mul (unit-most (p .0) (p .1)) (p .0 .top-most), p .0 .top-most)
-
-cast-divisor : tie.Need-cast-divisor
-cast-divisor c = search needs
 
 mul-divisor : tie.Need-mul-divisor
 mul-divisor c =
@@ -43,9 +37,6 @@ found c =
 
 add-high : tie.Need-add-high
 add-high c = let j = c .before in let p = start j .pre in omega (arith, found j .most, digits-most (p .0), p .5)
-
-sub-divide : tie.Need-sub-divide
-sub-divide c = search needs
 
 divide-requires : tie.Need-divide-requires
 divide-requires c κs =
@@ -72,22 +63,19 @@ cut-small-requires c κs =
     let p = start j .pre in
     (p .0, found j .digits, count-most (p .0) (found j .digits .above) (p .4), omega arith)
 
-returns-2 : tie.Need-returns-2
-returns-2 c = search needs
-
 pub cut-long-spec : {M : Type 1} → statement M
 cut-long-spec =
     tie.close
     (tie.spec
-    cast-if1
+    (λ c. search needs)
     mul-if1
-    cast-divisor
+    (λ c. search needs)
     mul-divisor
     add-beyond
     add-high
-    sub-divide
+    (λ c. search needs)
     divide-requires
     returns
     add-cut-small
     cut-small-requires
-    returns-2)
+    (λ c. search needs))

@@ -22,16 +22,10 @@ returns c =
     let a = s .args in
     c .extend .ensures ∙ sym (cut-extend (positional (s .pre .0)) (s .pre .1) (a .up) (a .down) (a .up - a .down) 0 (omega arith) (omega arith))
 
-sub-drop : tie.Need-sub-drop
-sub-drop c = search needs
-
 returns-2 : tie.Need-returns-2
 returns-2 c =
     let s = c .before .before in
     sym (cut-under (positional (s .pre .0)) (s .pre .1) (s .args .up) (s .args .down) (omega arith))
-
-power-requires : tie.Need-power-requires
-power-requires c κs = search needs
 
 divide-requires : tie.Need-divide-requires
 divide-requires c κs =
@@ -50,4 +44,4 @@ returns-3 c =
 pub cut-small-spec : {M : Type 1} → statement M
 cut-small-spec =
     tie.close
-    (tie.spec extend-requires returns sub-drop returns-2 power-requires divide-requires returns-3)
+    (tie.spec extend-requires returns (λ c. search needs) returns-2 (λ c κs. search needs) divide-requires returns-3)

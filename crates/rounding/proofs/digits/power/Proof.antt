@@ -7,27 +7,6 @@ use Rattle.rounding.proofs.Scales.{power-beyond, power-most}
 use Rattle.rounding.proofs.digits.power.Statement.{statement}
 use Rattle.rounding.proofs.digits.power.Tie as tie
 
-power-within-requires : tie.Need-power-within-requires
-power-within-requires c κs = search needs
-
-cast-result : tie.Need-cast-result
-cast-result c = search needs
-
-returns : tie.Need-returns
-returns c = search needs
-
-cast-result-2 : tie.Need-cast-result-2
-cast-result-2 c = search needs
-
-sub-power-within : tie.Need-sub-power-within
-sub-power-within c = search needs
-
-power-within-requires-2 : tie.Need-power-within-requires-2
-power-within-requires-2 c κs = search needs
-
-cast-result-3 : tie.Need-cast-result-3
-cast-result-3 c = search needs
-
 abbrev start : tie.After-power-within2 → tie.Start
 start c = c .before .before .before
 
@@ -44,12 +23,12 @@ pub power-spec : {M : Type 1} → statement M
 power-spec =
     tie.close
     (tie.spec
-    power-within-requires
-    cast-result
-    returns
-    cast-result-2
-    sub-power-within
-    power-within-requires-2
-    cast-result-3
+    (λ c κs. search needs)
+    (λ c. search needs)
+    (λ c. search needs)
+    (λ c. search needs)
+    (λ c. search needs)
+    (λ c κs. search needs)
+    (λ c. search needs)
     mul-result
     returns-2)

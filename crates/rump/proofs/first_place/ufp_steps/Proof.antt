@@ -26,9 +26,6 @@ size s = magnitude (form s) (s .args .f)
 power-requires : tie.Need-power-requires
 power-requires c κs = (c .pre .usable, first-format _ _ (c .pre .kept), omega arith)
 
-subrealmin-requires : tie.Need-subrealmin-requires
-subrealmin-requires c κs = search needs
-
 difference-requires : tie.Need-difference-requires
 difference-requires c κs =
     let s = c .before .before in
@@ -105,7 +102,7 @@ ufp-steps-spec =
     tie.close
     (tie.spec
     power-requires
-    subrealmin-requires
+    (λ c κs. search needs)
     difference-requires
     sub-power
     power-requires-2

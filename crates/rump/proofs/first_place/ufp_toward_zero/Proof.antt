@@ -12,15 +12,6 @@ use Rattle.rump.proofs.Entered.{to-first, route-refused, route-argument
 use Rattle.rump.proofs.first_place.ufp_toward_zero.Statement.{statement}
 use Rattle.rump.proofs.first_place.ufp_toward_zero.Tie as tie
 
-enter-requires : tie.Need-enter-requires
-enter-requires c κs = search needs
-
-enum-known-why : tie.Need-enum-known-why
-enum-known-why c = search needs
-
-enum-known-prepared : tie.Need-enum-known-prepared
-enum-known-prepared c = search needs
-
 passes : (c : tie.After-prepared) → let s = c .before .before .before .args in entered (s .format) [] (s .x ∷ []) ≡ Ready (c .prepared .given .0 .0)
 passes c = sym (c .before .before .enter .ensures) ∙ c .prepared .given .1
 
@@ -30,9 +21,6 @@ first-premise-requires c κs = inside _ _ (passes (c .before))
 returns : tie.Need-returns
 unfolding ufpRoute
 returns c = let p = c .before in route-refused to-first _ _ (passes (p .before .before)) (denied (p .first-premise .ensures) (c .if1 .taken))
-
-with-sign-requires : tie.Need-with-sign-requires
-with-sign-requires c κs = search needs
 
 ufp-steps-requires : tie.Need-ufp-steps-requires
 ufp-steps-requires c κs =
@@ -55,12 +43,12 @@ pub ufp-toward-zero-spec : {M : Type 1} → statement M
 ufp-toward-zero-spec =
     tie.close
     (tie.spec
-    enter-requires
-    enum-known-why
-    enum-known-prepared
+    (λ c κs. search needs)
+    (λ c. search needs)
+    (λ c. search needs)
     first-premise-requires
     returns
-    with-sign-requires
+    (λ c κs. search needs)
     ufp-steps-requires
     returns-2
     returns-3)

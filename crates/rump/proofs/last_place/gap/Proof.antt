@@ -16,9 +16,6 @@ form s = s .args .prepared .format
 abbrev size : tie.Start → ℕ
 size s = magnitude (form s) (s .args .f)
 
-subrealmin-requires : tie.Need-subrealmin-requires
-subrealmin-requires c κs = search needs
-
 difference-requires : tie.Need-difference-requires
 difference-requires c κs = let s = c .before in (s .pre .usable, preceding-gives (last-of (s .pre)) (s .pre .size) (c .subrealmin .ensures) .within)
 
@@ -33,4 +30,4 @@ returns c = let s = c .before .before .before in line (gap-gives (last-of (s .pr
 
 pub gap-spec : {M : Type 1} → statement M
 gap-spec =
-    tie.close (tie.spec subrealmin-requires difference-requires difference-requires-2 returns)
+    tie.close (tie.spec (λ c κs. search needs) difference-requires difference-requires-2 returns)

@@ -29,9 +29,6 @@ form s = s .args .prepared .format
 abbrev size : tie.Start → ℕ
 size s = magnitude (form s) (s .args .f)
 
-gap-requires : tie.Need-gap-requires
-gap-requires c κs = search needs
-
 -- ---- f + S, compared with f
 sum-requires : tie.Need-sum-requires
 sum-requires c κs = let s = c .before in (s .pre .usable, raised-gives (last-of (s .pre)) (s .pre .size) (c .gap .ensures) .within)
@@ -39,17 +36,11 @@ sum-requires c κs = let s = c .before in (s .pre .usable, raised-gives (last-of
 raised-has : (c : tie.After-sum) → let s = c .before .before in Has (form s) (c .sum .result) (raised (form s) (size s))
 raised-has c = let s = c .before .before in line (raised-gives (last-of (s .pre)) (s .pre .size) (c .before .gap .ensures)) (c .sum .ensures)
 
-compare-values-requires : tie.Need-compare-values-requires
-compare-values-requires c κs = search needs
-
 abbrev start : tie.After-compare-values → tie.Start
 start c = c .before .before .before
 
 compared : (c : tie.After-compare-values) → let s = start c in c .compare-values .result ≡ orderZ (raised (form s) (size s)) (pos (size s))
 compared c = c .compare-values .ensures ∙ ap₂ orderZ (raised-has (c .before) .is) (start c .pre .size .is)
-
-enum-told : tie.Need-enum-told
-enum-told c = search needs
 
 -- ---- β S where they are equal
 power-requires : tie.Need-power-requires
@@ -86,10 +77,10 @@ pub toward-zero-steps-spec : {M : Type 1} → statement M
 toward-zero-steps-spec =
     tie.close
     (tie.spec
-    gap-requires
+    (λ c κs. search needs)
     sum-requires
-    compare-values-requires
-    enum-told
+    (λ c κs. search needs)
+    (λ c. search needs)
     power-requires
     product-requires
     returns

@@ -12,15 +12,6 @@ use Rattle.rump.proofs.Entered.{to-last, route-refused, route-argument,
 use Rattle.rump.proofs.last_place.ulp_route.Statement.{statement}
 use Rattle.rump.proofs.last_place.ulp_route.Tie as tie
 
-enter-requires : tie.Need-enter-requires
-enter-requires c κs = search needs
-
-enum-known-why : tie.Need-enum-known-why
-enum-known-why c = search needs
-
-enum-known-prepared : tie.Need-enum-known-prepared
-enum-known-prepared c = search needs
-
 passes : (c : tie.After-prepared) → let s = c .before .before .before .args in entered (s .format) [] (s .x ∷ []) ≡ Ready (c .prepared .given .0 .0)
 passes c = sym (c .before .before .enter .ensures) ∙ c .prepared .given .1
 
@@ -30,9 +21,6 @@ last-premise-requires c κs = inside _ _ (passes (c .before))
 returns : tie.Need-returns
 unfolding ulpRoute
 returns c = let p = c .before in route-refused to-last _ _ (passes (p .before .before)) (denied (p .last-premise .ensures) (c .if1 .taken))
-
-with-sign-requires : tie.Need-with-sign-requires
-with-sign-requires c κs = search needs
 
 steps-requires : tie.Need-steps-requires
 steps-requires c κs =
@@ -55,12 +43,12 @@ pub ulp-route-spec : {M : Type 1} → statement M
 ulp-route-spec =
     tie.close
     (tie.spec
-    enter-requires
-    enum-known-why
-    enum-known-prepared
+    (λ c κs. search needs)
+    (λ c. search needs)
+    (λ c. search needs)
     last-premise-requires
     returns
-    with-sign-requires
+    (λ c κs. search needs)
     steps-requires
     returns-2
     returns-3)

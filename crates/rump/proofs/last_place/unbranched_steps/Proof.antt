@@ -40,13 +40,6 @@ factor-has c =
     let o = c .before in
     line (factor-gives (last-of (start c .pre)) (has-base (o .before .power .ensures)) (has-one (o .power2 .ensures))) (c .difference .ensures)
 
--- ---- S and d
-gap-requires : tie.Need-gap-requires
-gap-requires c κs = search needs
-
-defect-requires : tie.Need-defect-requires
-defect-requires c κs = search needs
-
 -- ---- (β - 1) d and S - (β - 1) d
 product-requires : tie.Need-product-requires
 product-requires c κs =
@@ -76,8 +69,8 @@ unbranched-steps-spec =
     power-requires
     power-requires-2
     difference-requires
-    gap-requires
-    defect-requires
+    (λ c κs. search needs)
+    (λ c κs. search needs)
     product-requires
     difference-requires-2
     returns)

@@ -16,9 +16,6 @@ form s = s .args .prepared .format
 abbrev size : tie.Start → ℕ
 size s = magnitude (form s) (s .args .f)
 
-subrealmin-requires : tie.Need-subrealmin-requires
-subrealmin-requires c κs = search needs
-
 next-has : (c : tie.After-sum) → let s = c .before .before in Has (form s) (c .sum .result) (next (form s) (size s))
 next-has c = let s = c .before .before in line (next-gives (last-of (s .pre)) (s .pre .size) (c .before .subrealmin .ensures)) (c .sum .ensures)
 
@@ -33,4 +30,4 @@ returns c = let s = c .before .before .before in line (upward-gives (last-of (s 
 
 pub upward-steps-spec : {M : Type 1} → statement M
 upward-steps-spec =
-    tie.close (tie.spec subrealmin-requires sum-requires difference-requires returns)
+    tie.close (tie.spec (λ c κs. search needs) sum-requires difference-requires returns)

@@ -4,14 +4,8 @@ use Rattle.rump.proofs.Steps.{delivered, product-delivers}
 use Rattle.rump.proofs.operations.product.Statement.{statement}
 use Rattle.rump.proofs.operations.product.Tie as tie
 
-multiply-requires : tie.Need-multiply-requires
-multiply-requires c κs = search needs
-
-number-of-requires : tie.Need-number-of-requires
-number-of-requires c κs = search needs
-
 returns : tie.Need-returns
 returns c = let a = c .before in delivered _ (product-delivers _ (a .before .pre) (a .multiply .ensures)) (c .number-of .ensures)
 
 pub product-spec : {M : Type 1} → statement M
-product-spec = tie.close (tie.spec multiply-requires number-of-requires returns)
+product-spec = tie.close (tie.spec (λ c κs. search needs) (λ c κs. search needs) returns)

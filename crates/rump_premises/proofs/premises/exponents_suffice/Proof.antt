@@ -32,9 +32,6 @@ returns c =
     let k = known (b .before .before .pre) in
     refuted (λ h. omega (arith, c .if1 .taken, low b, k .digits, reach (k .admits) h .low))
 
-above-zero-requires : tie.Need-above-zero-requires
-above-zero-requires c κs = search needs
-
 returns-2 : tie.Need-returns-2
 returns-2 c =
     let e = c .before .before in
@@ -45,4 +42,4 @@ returns-2 c =
 
 pub exponents-suffice-spec : {M : Type 1} → statement M
 exponents-suffice-spec =
-    tie.close (tie.spec below-zero-requires returns above-zero-requires returns-2)
+    tie.close (tie.spec below-zero-requires returns (λ c κs. search needs) returns-2)

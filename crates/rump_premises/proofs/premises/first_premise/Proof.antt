@@ -20,9 +20,6 @@ use Rattle.rump_premises.proofs.Values.{number-has, has-size}
 use Rattle.rump_premises.proofs.premises.first_premise.Statement.{statement}
 use Rattle.rump_premises.proofs.premises.first_premise.Tie as tie
 
-exponents-suffice-requires : tie.Need-exponents-suffice-requires
-exponents-suffice-requires c κs = search needs
-
 returns : tie.Need-returns
 returns c =
     let e = c .before in
@@ -76,7 +73,7 @@ pub first-premise-spec : {M : Type 1} → statement M
 first-premise-spec =
     tie.close
     (tie.spec
-    exponents-suffice-requires
+    (λ c κs. search needs)
     returns
     add-power-number
     sub-power-number

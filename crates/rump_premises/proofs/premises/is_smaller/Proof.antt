@@ -7,21 +7,6 @@ use Rattle.number.proofs.Comparison.{size-less-says, size-equal-says, size-grea
 use Rattle.rump_premises.proofs.premises.is_smaller.Statement.{statement}
 use Rattle.rump_premises.proofs.premises.is_smaller.Tie as tie
 
-compare-magnitudes-requires : tie.Need-compare-magnitudes-requires
-compare-magnitudes-requires c κs = search needs
-
-enum-told : tie.Need-enum-told
-enum-told c = search needs
-
-enum-told-2 : tie.Need-enum-told-2
-enum-told-2 c = search needs
-
-enum-told-3 : tie.Need-enum-told-3
-enum-told-3 c = search needs
-
-enum-told-4 : tie.Need-enum-told-4
-enum-told-4 c = search needs
-
 returns : tie.Need-returns
 returns c = sym (lt-ltb _ _ (size-less-says (sym (c .before .before .compare-magnitudes .ensures) ∙ c .enum-told .given .1)))
 
@@ -38,11 +23,11 @@ pub is-smaller-spec : {M : Type 1} → statement M
 is-smaller-spec =
     tie.close
     (tie.spec
-    compare-magnitudes-requires
-    enum-told
-    enum-told-2
-    enum-told-3
-    enum-told-4
+    (λ c κs. search needs)
+    (λ c. search needs)
+    (λ c. search needs)
+    (λ c. search needs)
+    (λ c. search needs)
     returns
     returns-2
     returns-3

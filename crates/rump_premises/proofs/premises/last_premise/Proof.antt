@@ -26,9 +26,6 @@ use Rattle.rump_premises.proofs.Values.{number-has, has-size}
 use Rattle.rump_premises.proofs.premises.last_premise.Statement.{statement}
 use Rattle.rump_premises.proofs.premises.last_premise.Tie as tie
 
-exponents-suffice-requires : tie.Need-exponents-suffice-requires
-exponents-suffice-requires c κs = search needs
-
 returns : tie.Need-returns
 returns c =
     let e = c .before in
@@ -95,7 +92,7 @@ pub last-premise-spec : {M : Type 1} → statement M
 last-premise-spec =
     tie.close
     (tie.spec
-    exponents-suffice-requires
+    (λ c κs. search needs)
     returns
     returns-2
     sub-number-at

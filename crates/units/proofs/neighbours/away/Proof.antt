@@ -19,9 +19,6 @@ facts c = known (c .pre .0)
 inner : (c : tie.Start) → Member (c .args .prepared .format) (c .args .x)
 inner c = members _ (facts c .admits) (c .pre .1)
 
-place-of-requires : tie.Need-place-of-requires
-place-of-requires c κs = search needs
-
 add-next : tie.Need-add-next
 add-next c =
     let s = c .before .before in
@@ -73,4 +70,4 @@ returns-2 c =
 pub away-spec : {M : Type 1} → statement M
 away-spec =
     tie.close
-    (tie.spec place-of-requires add-next add-deliver deliver-requires returns deliver-requires-2 returns-2)
+    (tie.spec (λ c κs. search needs) add-next add-deliver deliver-requires returns deliver-requires-2 returns-2)

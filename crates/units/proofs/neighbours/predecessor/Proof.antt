@@ -13,15 +13,6 @@ use Rattle.units.proofs.Sides.{away-below, toward-below}
 use Rattle.units.proofs.neighbours.predecessor.Statement.{statement}
 use Rattle.units.proofs.neighbours.predecessor.Tie as tie
 
-enter-requires : tie.Need-enter-requires
-enter-requires c κs = search needs
-
-enum-known-why : tie.Need-enum-known-why
-enum-known-why c = search needs
-
-enum-known-prepared : tie.Need-enum-known-prepared
-enum-known-prepared c = search needs
-
 ready : (c : tie.After-prepared) → let s = c .before .before .before .args in entered (s .format) [] (s .x ∷ []) ≡ Ready (c .prepared .given .0 .0)
 ready c = sym (c .before .before .enter .ensures) ∙ c .prepared .given .1
 
@@ -55,9 +46,9 @@ pub predecessor-spec : {M : Type 1} → statement M
 predecessor-spec =
     tie.close
     (tie.spec
-    enter-requires
-    enum-known-why
-    enum-known-prepared
+    (λ c κs. search needs)
+    (λ c. search needs)
+    (λ c. search needs)
     away-requires
     returns
     away-requires-2

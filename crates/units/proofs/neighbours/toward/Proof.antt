@@ -20,12 +20,6 @@ facts c = known (c .pre .0)
 inner : (c : tie.Start) → Member (c .args .prepared .format) (c .args .x)
 inner c = members _ (facts c .admits) (c .pre .1)
 
-place-of-requires : tie.Need-place-of-requires
-place-of-requires c κs = search needs
-
-sub-deliver : tie.Need-sub-deliver
-sub-deliver c = search needs
-
 -- where the step below is the step above: at the least place, and between powers
 abbrev Level : tie.Start → Type 0
 Level s = (placeOf (s .args .prepared .format) (s .args .x) ≡ 0) ⊎ (s .args .prepared .format .base ^ (s .args .prepared .format .digits - 1) < s .args .x .significand)
@@ -61,9 +55,6 @@ sub-deliver-2 c =
     let s = c .before .before .before .before .before in
     omega (arith, facts s .top, pow-pos (facts s .admits .base-low) (s .args .prepared .format .digits))
 
-sub-deliver-3 : tie.Need-sub-deliver-3
-sub-deliver-3 c = search needs
-
 -- a power above the least place
 power : (c : tie.After-struct-known2) → let s = c .before .before .before .before .before in s .args .x .significand ≡ s .args .prepared .format .base ^ (s .args .prepared .format .digits - 1)
 power c = let s = c .before .before .before .before .before in c .before .if2 .taken ∙ facts s .full
@@ -89,9 +80,6 @@ returns-2 c =
     (ap₂ (λ (t k : ℕ). (t - 1) * f .base ^ (k - 1)) (facts s .top) (p .place-of .ensures)
     ∙ below-written (facts s .admits) (inner s) (power (c .before)) (omega (arith, p .place-of .ensures, e .if1 .left)))
 
-sub-deliver-4 : tie.Need-sub-deliver-4
-sub-deliver-4 c = search needs
-
 deliver-requires-3 : tie.Need-deliver-requires-3
 deliver-requires-3 c κs =
     let p = c .before .before .before in
@@ -113,14 +101,14 @@ pub toward-spec : {M : Type 1} → statement M
 toward-spec =
     tie.close
     (tie.spec
-    place-of-requires
-    sub-deliver
+    (λ c κs. search needs)
+    (λ c. search needs)
     deliver-requires
     returns
     sub-deliver-2
-    sub-deliver-3
+    (λ c. search needs)
     deliver-requires-2
     returns-2
-    sub-deliver-4
+    (λ c. search needs)
     deliver-requires-3
     returns-3)

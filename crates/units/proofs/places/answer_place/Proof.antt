@@ -21,15 +21,6 @@ by-number First f x = refl
 by-number Last f x = refl
 by-number Least f x = refl
 
-enter-requires : tie.Need-enter-requires
-enter-requires c κs = search needs
-
-enum-known-why : tie.Need-enum-known-why
-enum-known-why c = search needs
-
-enum-known-prepared : tie.Need-enum-known-prepared
-enum-known-prepared c = search needs
-
 place-number-requires : tie.Need-place-number-requires
 place-number-requires c κs = inside _ _ (sym (c .before .before .before .enter .ensures) ∙ c .before .prepared .given .1)
 
@@ -48,4 +39,4 @@ returns-2 c =
 
 pub answer-place-spec : {M : Type 1} → statement M
 answer-place-spec =
-    tie.close (tie.spec enter-requires enum-known-why enum-known-prepared place-number-requires returns returns-2)
+    tie.close (tie.spec (λ c κs. search needs) (λ c. search needs) (λ c. search needs) place-number-requires returns returns-2)

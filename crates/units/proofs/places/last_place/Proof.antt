@@ -19,9 +19,6 @@ returns c =
     let k = known (s .pre .0) in
     zero-place (k .admits) (members _ (k .admits) (s .pre .1)) (ulp (s .args .prepared .format .base) (s .args .prepared .format .digits)) refl (c .if1 .taken)
 
-place-of-requires : tie.Need-place-of-requires
-place-of-requires c κs = search needs
-
 power-number-requires : tie.Need-power-number-requires
 power-number-requires c κs =
     let s = c .before .before .before in
@@ -39,4 +36,4 @@ returns-2 c =
     ∙ last-power (k .admits) (members _ (k .admits) (s .pre .1)) (omega (arith, e .if1 .left)))
 
 pub last-place-spec : {M : Type 1} → statement M
-last-place-spec = tie.close (tie.spec returns place-of-requires power-number-requires returns-2)
+last-place-spec = tie.close (tie.spec returns (λ c κs. search needs) power-number-requires returns-2)

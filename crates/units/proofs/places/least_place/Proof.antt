@@ -19,9 +19,6 @@ returns c =
     let k = known (s .pre .0) in
     zero-place (k .admits) (members _ (k .admits) (s .pre .1)) (uls (s .args .prepared .format .base)) refl (c .if1 .taken)
 
-place-of-requires : tie.Need-place-of-requires
-place-of-requires c κs = search needs
-
 trailing-zeros-requires : tie.Need-trailing-zeros-requires
 trailing-zeros-requires c κs =
     let e = c .before in
@@ -64,4 +61,4 @@ returns-2 c =
 pub least-place-spec : {M : Type 1} → statement M
 least-place-spec =
     tie.close
-    (tie.spec returns place-of-requires trailing-zeros-requires add-power-number power-number-requires returns-2)
+    (tie.spec returns (λ c κs. search needs) trailing-zeros-requires add-power-number power-number-requires returns-2)

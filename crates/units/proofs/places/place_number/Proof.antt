@@ -7,24 +7,6 @@ use Rattle.units.specs.Places.{placeNumber}
 use Rattle.units.proofs.places.place_number.Statement.{statement}
 use Rattle.units.proofs.places.place_number.Tie as tie
 
-enum-told : tie.Need-enum-told
-enum-told c = search needs
-
-first-place-requires : tie.Need-first-place-requires
-first-place-requires c κs = search needs
-
-enum-told-2 : tie.Need-enum-told-2
-enum-told-2 c = search needs
-
-last-place-requires : tie.Need-last-place-requires
-last-place-requires c κs = search needs
-
-enum-told-3 : tie.Need-enum-told-3
-enum-told-3 c = search needs
-
-least-place-requires : tie.Need-least-place-requires
-least-place-requires c κs = search needs
-
 -- what holds at the place that was told
 told : (s : tie.Start) {p : Place} {r : Number} → s .args .place ≡ p → r ≡ placeNumber p (s .args .prepared .format) (s .args .x)
     → r ≡ placeNumber (s .args .place) (s .args .prepared .format) (s .args .x)
@@ -43,12 +25,12 @@ pub place-number-spec : {M : Type 1} → statement M
 place-number-spec =
     tie.close
     (tie.spec
-    enum-told
-    first-place-requires
-    enum-told-2
-    last-place-requires
-    enum-told-3
-    least-place-requires
+    (λ c. search needs)
+    (λ c κs. search needs)
+    (λ c. search needs)
+    (λ c κs. search needs)
+    (λ c. search needs)
+    (λ c κs. search needs)
     returns
     returns-2
     returns-3)

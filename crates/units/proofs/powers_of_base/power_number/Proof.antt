@@ -50,9 +50,6 @@ add-number-at c =
     let k = known (s .pre .0) in
     omega (arith, s .pre .1, k .admits .digits-high, k .highest, highest-most (k .admits))
 
-sub-number-at : tie.Need-sub-number-at
-sub-number-at c = search needs
-
 number-at-requires-2 : tie.Need-number-at-requires-2
 number-at-requires-2 c κs =
     let s = c .before in
@@ -74,4 +71,4 @@ returns-2 c =
 pub power-number-spec : {M : Type 1} → statement M
 power-number-spec =
     tie.close
-    (tie.spec power-requires number-at-requires returns add-number-at sub-number-at number-at-requires-2 returns-2)
+    (tie.spec power-requires number-at-requires returns add-number-at (λ c. search needs) number-at-requires-2 returns-2)

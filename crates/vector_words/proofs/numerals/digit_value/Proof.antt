@@ -9,9 +9,6 @@ use Rattle.vector_words.proofs.numerals.digit_value.Tie as tie
 returns : tie.Need-returns
 returns c = decimal-digit _ (c .before .if1 .taken) (c .if2 .taken)
 
-sub-result : tie.Need-sub-result
-sub-result c = search needs
-
 returns-2 : tie.Need-returns-2
 returns-2 c = letter-digit _ (c .before .if3 .taken) (c .if4 .taken)
 
@@ -22,4 +19,4 @@ returns-4 : tie.Need-returns-4
 returns-4 c = not-digit _ (λ l u. ⊎-elim (λ w. omega arith) (λ w. omega arith) (c .before .if1 .came)) (λ l u. omega arith)
 
 pub digit-value-spec : {M : Type 1} → statement M
-digit-value-spec = tie.close (tie.spec returns sub-result returns-2 returns-3 returns-4)
+digit-value-spec = tie.close (tie.spec returns (λ c. search needs) returns-2 returns-3 returns-4)

@@ -6,9 +6,6 @@ use Rattle.vector_words.proofs.NumeralLaws.{not-eight, are-eight}
 use Rattle.vector_words.proofs.numerals.eight_digits.Statement.{statement}
 use Rattle.vector_words.proofs.numerals.eight_digits.Tie as tie
 
-sub-if1 : tie.Need-sub-if1
-sub-if1 c = search needs
-
 returns : tie.Need-returns
 returns c = let s = c .before .before in not-eight _ _ _ (s .pre .1) (c .if1 .taken)
 
@@ -19,4 +16,4 @@ returns-2 : tie.Need-returns-2
 returns-2 c = let s = c .before .before .before in c .value-of .ensures ∙ are-eight _ _ _ (s .pre .1) (c .before .if1 .left)
 
 pub eight-digits-spec : {M : Type 1} → statement M
-eight-digits-spec = tie.close (tie.spec sub-if1 returns value-of-requires returns-2)
+eight-digits-spec = tie.close (tie.spec (λ c. search needs) returns value-of-requires returns-2)

@@ -7,23 +7,11 @@ use Rattle.vector_words.proofs.NumeralLaws.{no-sign, minus, plus}
 use Rattle.vector_words.proofs.numerals.integer.Statement.{statement}
 use Rattle.vector_words.proofs.numerals.integer.Tie as tie
 
-word-requires : tie.Need-word-requires
-word-requires c κs = search needs
-
 returns : tie.Need-returns
 returns c = no-sign (c .before .word .ensures) (c .if1 .taken)
 
-shared-slice-read-if2 : tie.Need-shared-slice-read-if2
-shared-slice-read-if2 c = search needs
-
-add-value-of : tie.Need-add-value-of
-add-value-of c = search needs
-
 value-of-requires : tie.Need-value-of-requires
 value-of-requires c κs = (ten, c .before .before .before .word .ensures .within)
-
-signed-requires : tie.Need-signed-requires
-signed-requires c κs = search needs
 
 returns-2 : tie.Need-returns-2
 returns-2 c =
@@ -33,9 +21,6 @@ returns-2 c =
 
 value-of-requires-2 : tie.Need-value-of-requires-2
 value-of-requires-2 c κs = (ten, c .before .before .before .word .ensures .within)
-
-signed-requires-2 : tie.Need-signed-requires-2
-signed-requires-2 c κs = search needs
 
 returns-3 : tie.Need-returns-3
 returns-3 c =
@@ -47,13 +32,13 @@ pub integer-spec : {M : Type 1} → statement M
 integer-spec =
     tie.close
     (tie.spec
-    word-requires
+    (λ c κs. search needs)
     returns
-    shared-slice-read-if2
-    add-value-of
+    (λ c. search needs)
+    (λ c. search needs)
     value-of-requires
-    signed-requires
+    (λ c κs. search needs)
     returns-2
     value-of-requires-2
-    signed-requires-2
+    (λ c κs. search needs)
     returns-3)

@@ -6,17 +6,11 @@ use Rattle.vector_words.proofs.NumeralLaws.{not-sixteen}
 use Rattle.vector_words.proofs.numerals.shifted.Statement.{statement}
 use Rattle.vector_words.proofs.numerals.shifted.Tie as tie
 
-mul-result : tie.Need-mul-result
-mul-result c = search needs
-
 returns : tie.Need-returns
 returns c = ap (λ (n : ℕ). c .before .args .value * n) (sym (c .if1 .taken))
-
-mul-result-2 : tie.Need-mul-result-2
-mul-result-2 c = search needs
 
 returns-2 : tie.Need-returns-2
 returns-2 c = ap (λ (n : ℕ). c .before .args .value * n) (sym (not-sixteen (c .before .pre .0) (c .if1 .left)))
 
 pub shifted-spec : {M : Type 1} → statement M
-shifted-spec = tie.close (tie.spec mul-result returns mul-result-2 returns-2)
+shifted-spec = tie.close (tie.spec (λ c. search needs) returns (λ c. search needs) returns-2)

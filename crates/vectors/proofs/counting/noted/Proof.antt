@@ -8,24 +8,6 @@ use Rattle.vectors.proofs.counting.noted.Tie as tie
 returns : tie.Need-returns
 returns c = agreeing-noted _ _ (c .if1 .taken)
 
-slice-aggregate-write-all : tie.Need-slice-aggregate-write-all
-slice-aggregate-write-all c = search needs
-
-write-all-requires : tie.Need-write-all-requires
-write-all-requires c κs = search needs
-
-print-decimal-requires : tie.Need-print-decimal-requires
-print-decimal-requires c κs = search needs
-
-slice-aggregate-write-all-2 : tie.Need-slice-aggregate-write-all-2
-slice-aggregate-write-all-2 c = search needs
-
-write-all-requires-2 : tie.Need-write-all-requires-2
-write-all-requires-2 c κs = search needs
-
-one-more-requires : tie.Need-one-more-requires
-one-more-requires c κs = search needs
-
 returns-2 : tie.Need-returns-2
 returns-2 c = c .one-more .ensures ∙ differing-noted _ _ (c .before .before .if1 .left)
 
@@ -34,10 +16,10 @@ noted-spec =
     tie.close
     (tie.spec
     returns
-    slice-aggregate-write-all
-    write-all-requires
-    print-decimal-requires
-    slice-aggregate-write-all-2
-    write-all-requires-2
-    one-more-requires
+    (λ c. search needs)
+    (λ c κs. search needs)
+    (λ c κs. search needs)
+    (λ c. search needs)
+    (λ c κs. search needs)
+    (λ c κs. search needs)
     returns-2)

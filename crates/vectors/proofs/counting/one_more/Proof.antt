@@ -7,11 +7,8 @@ use Rattle.vectors.proofs.counting.one_more.Tie as tie
 returns : tie.Need-returns
 returns c = greatest-stays _ (c .if1 .taken)
 
-add-result : tie.Need-add-result
-add-result c = search needs
-
 returns-2 : tie.Need-returns-2
 returns-2 c = one-added _ (c .if1 .left)
 
 pub one-more-spec : {M : Type 1} → statement M
-one-more-spec = tie.close (tie.spec returns add-result returns-2)
+one-more-spec = tie.close (tie.spec returns (λ c. search needs) returns-2)

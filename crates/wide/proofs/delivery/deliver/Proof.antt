@@ -6,9 +6,6 @@ use Rattle.wide.proofs.Deliveries.{with-sign-some, with-sign-none}
 use Rattle.wide.proofs.delivery.deliver.Statement.{statement}
 use Rattle.wide.proofs.delivery.deliver.Tie as tie
 
-finish-requires : tie.Need-finish-requires
-finish-requires c κs = search needs
-
 returns : tie.Need-returns
 unfolding delivered
 returns c =
@@ -24,4 +21,4 @@ returns-2 c =
     with-sign-none (s .negative) (c .before .finish .result) (c .if1 .left) ∙ ap (withSign (s .negative)) (c .before .finish .ensures N D h e)
 
 pub deliver-spec : {M : Type 1} → statement M
-deliver-spec = tie.close (tie.spec finish-requires returns returns-2)
+deliver-spec = tie.close (tie.spec (λ c κs. search needs) returns returns-2)

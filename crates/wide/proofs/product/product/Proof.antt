@@ -9,22 +9,10 @@ use Rattle.wide.proofs.Products.{product-small, product-value}
 use Rattle.wide.proofs.product.product.Statement.{statement}
 use Rattle.wide.proofs.product.product.Tie as tie
 
-cast-n : tie.Need-cast-n
-cast-n c = search needs
-
-cast-n-2 : tie.Need-cast-n-2
-cast-n-2 c = search needs
-
 mul-n : tie.Need-mul-n
 mul-n c =
     let p = c .before .before .pre in
     omega (arith, product-small (p .0) (p .1) (p .2), square (p .0), square-most (p .0))
-
-add-product-cut : tie.Need-add-product-cut
-add-product-cut c = search needs
-
-add-product-cut-2 : tie.Need-add-product-cut-2
-add-product-cut-2 c = search needs
 
 product-cut-requires : tie.Need-product-cut-requires
 product-cut-requires c κs =
@@ -44,18 +32,15 @@ round-product-requires c κs =
           ∙ ap (λ (n : ℕ). cutOf (a .scale .base) (a .scale .digits) n (a .scale .base ^ a .down)) (product-value (p .0) (p .1) (p .2) (a .up)),
     )
 
-returns : tie.Need-returns
-returns c = search needs
-
 pub product-spec : {M : Type 1} → statement M
 product-spec =
     tie.close
     (tie.spec
-    cast-n
-    cast-n-2
+    (λ c. search needs)
+    (λ c. search needs)
     mul-n
-    add-product-cut
-    add-product-cut-2
+    (λ c. search needs)
+    (λ c. search needs)
     product-cut-requires
     round-product-requires
-    returns)
+    (λ c. search needs))

@@ -8,16 +8,10 @@ use borrow.Author.Needs.{needs}
 use Rattle.wide.proofs.product.product_cut.Statement.{statement}
 use Rattle.wide.proofs.product.product_cut.Tie as tie
 
-cast-full : tie.Need-cast-full
-cast-full c = search needs
-
 mul-if1 : tie.Need-mul-if1
 mul-if1 c =
     let h = c .before .pre .0 in
     omega (arith, mul-le-mul (full-most h) (full-most h), square h, square-most h)
-
-sub-cut-long : tie.Need-sub-cut-long
-sub-cut-long c = search needs
 
 cut-long-requires : tie.Need-cut-long-requires
 cut-long-requires c κs =
@@ -26,16 +20,7 @@ cut-long-requires c κs =
     let t = s .args .scale .top in
     (p .0, full-unit (p .0), c .before .if1 .taken, omega (arith, p .1, ap (λ (v : ℕ). v * t) (full-top (p .0))), p .1, p .2, p .3)
 
-returns : tie.Need-returns
-returns c = search needs
-
-cut-requires : tie.Need-cut-requires
-cut-requires c κs = search needs
-
-returns-2 : tie.Need-returns-2
-returns-2 c = search needs
-
 pub product-cut-spec : {M : Type 1} → statement M
 product-cut-spec =
     tie.close
-    (tie.spec cast-full mul-if1 sub-cut-long cut-long-requires returns cut-requires returns-2)
+    (tie.spec (λ c. search needs) mul-if1 (λ c. search needs) cut-long-requires (λ c. search needs) (λ c κs. search needs) (λ c. search needs))
