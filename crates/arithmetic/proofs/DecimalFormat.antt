@@ -22,7 +22,7 @@ use Rattle.number.specs.declared.Answer.the-variants.{Refused}
 use Rattle.number.specs.Entry.{Usable, all, entry, after, entered}
 use Rattle.number.specs.Numbers.{equalZ, member}
 use Rattle.number.proofs.Entries.{entry-made, pair-made, after-passed}
-use Rattle.number.proofs.Membership.{equal-true, usable}
+use Rattle.number.proofs.Membership.{equal-true, prepared-format, usable}
 use Rattle.wide.specs.declared.Wide.{Wide}
 use Rattle.wide.specs.Operand.{Operand}
 use Rattle.wide.specs.Sum.{summed}
@@ -92,25 +92,16 @@ module _ (f : Format) (d : ℕ) (a b : Number) (h : isCall f d a b ≡ true) whe
       ∙ ap (λ (g : Format). after (entry g (d ∷ []) (a ∷ b ∷ [])) Refused (inner g (direction d))) (sym call-format)
 
 module _ {q : Prepared} (e : q ≡ preparedOf decimal32) where
-  pub prepared-usable : Usable q
-  prepared-usable = usable decimal32-admitted e
-
-  same-format : q .format ≡ decimal32
-  same-format = ap (λ (r : Prepared). r .format) e
-
-  pub prepared-member : (x : Number) → member decimal32 x ≡ true → member (q .format) x ≡ true
-  prepared-member x m = ap (λ (f : Format). member f x) same-format ∙ m
-
   same-delivery : {w : Wide} {r : Answer} → Delivers decimal32 w r → Delivers (q .format) w r
-  same-delivery {w} {r} = subst (λ (f : Format). Delivers f w r) (sym same-format)
+  same-delivery {w} {r} = subst (λ (f : Format). Delivers f w r) (sym (prepared-format e))
 
   -- ---- two of its numbers in the wide format
   module _ (a b : Number) {x y : Wide} (ex : x ≡ wideOf (q .format) a) (ey : y ≡ wideOf (q .format) b) where
     first : x ≡ wideOf decimal32 a
-    first = ex ∙ ap (λ (f : Format). wideOf f a) same-format
+    first = ex ∙ ap (λ (f : Format). wideOf f a) (prepared-format e)
 
     second : y ≡ wideOf decimal32 b
-    second = ey ∙ ap (λ (f : Format). wideOf f b) same-format
+    second = ey ∙ ap (λ (f : Format). wideOf f b) (prepared-format e)
 
     pub operands : member decimal32 a ≡ true → member decimal32 b ≡ true → Operand decimal x × Operand decimal y
     operands m n = (operand decimal32-usable a m first, operand decimal32-usable b n second)

@@ -23,7 +23,7 @@ use Rattle.binary32_arithmetic.specs.Calls.{roundedBy, onPatterns, patte
 
 module _ (a b : ℕ) (ha : finite a ≡ true) (hb : finite b ≡ true) where
   -- the operation of format 2 on what was read
-  called : (operation : Operation) → patternCall operation 0 a b ≡ answerWritten (roundedBy operation nearest-even (numberRead a) (numberRead b))
+  called : (operation : Operation) → patternCall operation 0 a b ≡ answerWritten (roundedBy operation binary32 nearest-even (numberRead a) (numberRead b))
   unfolding patternCall onPatterns isDirection direction
   called operation = unless-passed _ _ refl ∙ unless-passed _ _ (and-made ha hb)
 

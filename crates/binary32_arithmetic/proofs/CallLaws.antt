@@ -41,7 +41,7 @@ readBack (pattern.Refused why) = answer.Refused why
 
 -- the checks of a call on numbers come first
 checked : (operation : Operation) (d : ℕ) (x y : Number)
-    → numberCall operation d x y ≡ after (entry binary32 (d ∷ []) (x ∷ y ∷ [])) answer.Refused (roundedBy operation (direction d) x y)
+    → numberCall operation d x y ≡ after (entry binary32 (d ∷ []) (x ∷ y ∷ [])) answer.Refused (roundedBy operation binary32 (direction d) x y)
 unfolding summed subtracted multiplied divided
 checked Sum d x y = refl
 checked Difference d x y = refl
@@ -49,7 +49,7 @@ checked Product d x y = refl
 checked Quotient d x y = refl
 
 -- a result, written and read
-back : (operation : Operation) (t : Direction) (x y : Number) {r : Answer} → roundedBy operation t x y ≡ r → readBack (answerWritten r) ≡ r
+back : (operation : Operation) (t : Direction) (x y : Number) {r : Answer} → roundedBy operation binary32 t x y ≡ r → readBack (answerWritten r) ≡ r
 back operation t x y {r = answer.Value z} e = written-read z (result-member operation t x y e)
 back operation t x y {r = answer.Refused why} e = refl
 
@@ -69,7 +69,7 @@ module _ (operation : Operation) (d a b : ℕ) where
       → readBack (patternCall operation d a b) ≡ numberCall operation d x y
   unfolding patternCall onPatterns unless
   call-read {x} {y} h k =
-      by (isDirection d) ∙ sym (directed d x y (read-member a h) (read-member b k) (roundedBy operation (direction d) x y)) ∙ sym (checked operation d x y)
+      by (isDirection d) ∙ sym (directed d x y (read-member a h) (read-member b k) (roundedBy operation binary32 (direction d) x y)) ∙ sym (checked operation d x y)
     where
       i : Reads a x
       i = reads a h
@@ -77,13 +77,13 @@ module _ (operation : Operation) (d a b : ℕ) where
       j : Reads b y
       j = reads b k
 
-      result : readBack (onPatterns operation (direction d) a b) ≡ roundedBy operation (direction d) x y
+      result : readBack (onPatterns operation (direction d) a b) ≡ roundedBy operation binary32 (direction d) x y
       result =
-          ap readBack (unless-passed _ _ (and-made (i .finite) (j .finite)) ∙ ap answerWritten (ap₂ (roundedBy operation (direction d)) (sym (i .is)) (sym (j .is))))
+          ap readBack (unless-passed _ _ (and-made (i .finite) (j .finite)) ∙ ap answerWritten (ap₂ (roundedBy operation binary32 (direction d)) (sym (i .is)) (sym (j .is))))
           ∙ back operation (direction d) x y refl
 
       by : (t : Bool) → readBack (unless t (pattern.Refused NoSuchDirection) (onPatterns operation (direction d) a b))
-          ≡ unless t (answer.Refused NoSuchDirection) (roundedBy operation (direction d) x y)
+          ≡ unless t (answer.Refused NoSuchDirection) (roundedBy operation binary32 (direction d) x y)
       by true = result
       by false = refl
 

@@ -58,7 +58,7 @@ both-read a b h k =
 pub record Given (a b : ℕ) (p : Pair) : Type 0 where
   pub first : patternRead a ≡ answer.Value (p .first)
   pub second : patternRead b ≡ answer.Value (p .second)
-  pub call : (operation : Operation) (d : Direction) → answerWritten (roundedBy operation d (p .first) (p .second)) ≡ onPatterns operation d a b
+  pub call : (operation : Operation) (d : Direction) → answerWritten (roundedBy operation binary32 d (p .first) (p .second)) ≡ onPatterns operation d a b
 
 pub given : (a b : ℕ) {p : Pair} → operandsOf a b ≡ Both p → Given a b p
 unfolding operandsOf onPatterns
@@ -72,7 +72,7 @@ given a b {p} h = by (finite a and finite b) refl
         record {
           first = read-made a (and-left _ _ e) ∙ ap answer.Value x;
           second = read-made b (and-right _ _ e) ∙ ap answer.Value y;
-          call = λ operation d. sym (unless-passed _ _ e ∙ ap answerWritten (ap₂ (roundedBy operation d) x y));
+          call = λ operation d. sym (unless-passed _ _ e ∙ ap answerWritten (ap₂ (roundedBy operation binary32 d) x y));
         }
     by false e = absurd (let k : Refused NotFinite ≡ Both p = sym (unless-failed _ _ e) ∙ h in let z : _≡_ {A = ℕ} 0 1 = cc in omega arith)
 
@@ -80,7 +80,7 @@ pub refused : (operation : Operation) (d : Direction) (a b : ℕ) {why : Refusal
 unfolding operandsOf onPatterns
 refused operation d a b {why} h = by (finite a and finite b) refl
   where
-    by : (t : Bool) → finite a and finite b ≡ t → pattern.Refused why ≡ unless (finite a and finite b) (pattern.Refused NotFinite) (answerWritten (roundedBy operation d (numberRead a) (numberRead b)))
+    by : (t : Bool) → finite a and finite b ≡ t → pattern.Refused why ≡ unless (finite a and finite b) (pattern.Refused NotFinite) (answerWritten (roundedBy operation binary32 d (numberRead a) (numberRead b)))
     by true e =
         absurd (let k : Both (record { first = numberRead a; second = numberRead b }) ≡ Refused why = sym (unless-passed _ _ e) ∙ h in let z : _≡_ {A = ℕ} 0 1 = cc in omega arith)
     by false e =

@@ -2,6 +2,7 @@
 use Prim.Native.Nat.{ℕ}
 use Rattle.theory.specs.Tests.{_and_, unless}
 use Rattle.theory.specs.Round.{Direction}
+use Rattle.format.specs.declared.Format.{Format}
 use Rattle.format.specs.declared.Refusal.the-variants.{NoSuchDirection, NotFinite}
 use Rattle.format.specs.Directions.{isDirection, direction}
 use Rattle.format.specs.Published.{binary32}
@@ -20,16 +21,16 @@ use Rattle.binary32_arithmetic.specs.declared.Operands.the-variants as o
 unfoldable pub operandsOf : (a b : ℕ) → Operands
 operandsOf a b = unless (finite a and finite b) (operands.Refused NotFinite) (operands.Both (record { first = numberRead a; second = numberRead b }))
 
--- an operation of format 2
-abbrev pub roundedBy : Operation → Direction → (a b : Number) → Answer
-roundedBy Sum d a b = roundedSum binary32 d a b
-roundedBy Difference d a b = roundedDifference binary32 d a b
-roundedBy Product d a b = roundedProduct binary32 d a b
-roundedBy Quotient d a b = roundedQuotient binary32 d a b
+-- an operation of a format
+abbrev pub roundedBy : Operation → Format → Direction → (a b : Number) → Answer
+roundedBy Sum f d a b = roundedSum f d a b
+roundedBy Difference f d a b = roundedDifference f d a b
+roundedBy Product f d a b = roundedProduct f d a b
+roundedBy Quotient f d a b = roundedQuotient f d a b
 
--- on the numbers of two patterns, its result written
+-- an operation of format 2 on the numbers of two patterns, its result written
 unfoldable pub onPatterns : Operation → Direction → (a b : ℕ) → Pattern
-onPatterns operation d a b = unless (finite a and finite b) (pattern.Refused NotFinite) (answerWritten (roundedBy operation d (numberRead a) (numberRead b)))
+onPatterns operation d a b = unless (finite a and finite b) (pattern.Refused NotFinite) (answerWritten (roundedBy operation binary32 d (numberRead a) (numberRead b)))
 
 -- the public calls: refusal 2 comes first
 unfoldable pub patternCall : Operation → (d a b : ℕ) → Pattern

@@ -26,7 +26,7 @@ ghost use Rattle.binary32_arithmetic.specs.declared.Operation.the-varian
 // The operation on two numbers of format 2. Refuses 4, 5.
 fn operate(operation: Operation, direction: Direction, a: Number, b: Number) -> Answer
     requires { ⌜ (member binary32 a ≡ true) × (member binary32 b ≡ true) ⌝ }
-    ensures { λ r. ⌜ r ≡ roundedBy operation (sense direction) a b ⌝ }
+    ensures { λ r. ⌜ r ≡ roundedBy operation binary32 (sense direction) a b ⌝ }
 {
     let prepared = prepared_binary32();
     match operation {

@@ -1,6 +1,6 @@
 -- From the checks to the inner functions: what a passed check gives them.
 use Prim.Native.Nat.{ℕ}
-use mathlib.Core.Path.{_≡_, ap, _∙_}
+use mathlib.Core.Path.{_≡_}
 use mathlib.Core.Bool.{true}
 use mathlib.Core.List.{List, [], _∷_}
 use Rattle.theory.proofs.Tests.{and-left, and-right}
@@ -8,7 +8,6 @@ use Rattle.format.specs.declared.Format.{Format}
 use Rattle.format.specs.declared.Prepared.{Prepared}
 use Rattle.format.specs.Directions.{isDirection}
 use Rattle.number.specs.declared.Number.{Number}
-use Rattle.number.specs.Numbers.{member}
 use Rattle.number.specs.Entry.{all}
 use Rattle.number.proofs.Entries.{Passed}
 
@@ -23,7 +22,3 @@ unfolding all
 directed p =
     let rest = and-right _ _ (p .directed) in
     record { first = and-left _ _ (p .directed); second = and-left _ _ rest; third = and-left _ _ (and-right _ _ rest) }
-
--- a number of the format is one of the prepared format
-pub prepared-member : {f : Format} {directions : List ℕ} {numbers : List Number} {q : Prepared} (x : Number) → Passed f directions numbers q → member f x ≡ true → member (q .format) x ≡ true
-prepared-member x p h = ap (λ (r : Prepared). member (r .format) x) (p .is) ∙ h

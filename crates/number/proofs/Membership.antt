@@ -156,11 +156,18 @@ known {q} u =
 pub usable-scaled : {q : Prepared} → Usable q → Scaled (q .scale)
 usable-scaled {q} u = subst Scaled (sym (ap (λ (r : Prepared). r .scale) (u .is))) (scaled (admits (q .format) (u .format)))
 
+-- ---- a format and the same format prepared
+module _ {q : Prepared} {f : Format} (e : q ≡ preparedOf f) where
+  pub prepared-format : q .format ≡ f
+  prepared-format = ap (λ (r : Prepared). r .format) e
+
+  -- a number of the one is a number of the other
+  pub prepared-member : (x : Number) → member f x ≡ true → member (q .format) x ≡ true
+  prepared-member x h = ap (λ (g : Format). member g x) prepared-format ∙ h
+
 pub usable : {q : Prepared} {f : Format} → admitted f ≡ true → q ≡ preparedOf f → Usable q
-usable {q} {f} h e =
-    let same : q .format ≡ f = ap (λ (r : Prepared). r .format) e in
-    record { format = ap admitted same ∙ h; is = e ∙ ap preparedOf (sym same) }
+usable h e = record { format = ap admitted (prepared-format e) ∙ h; is = e ∙ ap preparedOf (sym (prepared-format e)) }
 
 pub decided : (q : Prepared) (x : Number) {r : Bool} → (Known q → r ≡ member (q .format) x)
     → (f : Format) → admitted f ≡ true → q ≡ preparedOf f → r ≡ member f x
-decided q x h f a e = h (known (usable a e)) ∙ ap (λ (r : Prepared). member (r .format) x) e
+decided q x h f a e = h (known (usable a e)) ∙ ap (λ (g : Format). member g x) (prepared-format e)

@@ -13,10 +13,14 @@ use Rattle.number.specs.Entry.{entry, after}
 abbrev pub withSign : Number → Bool → Number
 withSign x negative = record { negative = not (eqb (x .significand) 0) && negative; significand = x .significand; exponent = x .exponent }
 
+-- the number with the magnitude of x and this sign, after the checks
+abbrev pub signedAnswer : Format → Number → (negative : Bool) → Answer
+signedAnswer f x negative = after (entry f [] (x ∷ [])) Refused (Value (number f negative (magnitude f x)))
+
 -- the answer of negate: the other sign, the same magnitude
 unfoldable pub negated : Format → Number → Answer
-negated f x = after (entry f [] (x ∷ [])) Refused (Value (number f (not (x .negative)) (magnitude f x)))
+negated f x = signedAnswer f x (not (x .negative))
 
 -- the answer of magnitude
 unfoldable pub unsigned : Format → Number → Answer
-unsigned f x = after (entry f [] (x ∷ [])) Refused (Value (number f false (magnitude f x)))
+unsigned f x = signedAnswer f x false

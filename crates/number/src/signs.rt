@@ -5,7 +5,7 @@ use crate::entry::enter;
 use format::Format;
 use format::Preparation;
 ghost use mathlib.Core.Path.{_≡_};
-ghost use Rattle.number.specs.Signs.{withSign, negated, unsigned};
+ghost use Rattle.number.specs.Signs.{withSign, signedAnswer, negated, unsigned};
 
 // x with the sign `negative`; zero stays plus.
 pub fn with_sign(x: Number, negative: bool) -> Number
@@ -27,22 +27,26 @@ pub fn with_sign(x: Number, negative: bool) -> Number
     }
 }
 
+// x with the sign `negative`, after the checks. Refuses 1, 3.
+fn answer_signed(format: Format, x: Number, negative: bool) -> Answer
+    ensures { λ r. ⌜ r ≡ signedAnswer format x negative ⌝ }
+{
+    match enter(format, x) {
+        Preparation::Refused(why) => Answer::Refused(why),
+        Preparation::Ready(_) => Answer::Value(with_sign(x, negative)),
+    }
+}
+
 // -x. Refuses 1, 3.
 pub fn negate(format: Format, x: Number) -> Answer
     ensures { λ r. ⌜ r ≡ negated format x ⌝ }
 {
-    match enter(format, x) {
-        Preparation::Refused(why) => Answer::Refused(why),
-        Preparation::Ready(_) => Answer::Value(with_sign(x, !x.negative)),
-    }
+    answer_signed(format, x, !x.negative)
 }
 
 // |x|. Refuses 1, 3.
 pub fn magnitude(format: Format, x: Number) -> Answer
     ensures { λ r. ⌜ r ≡ unsigned format x ⌝ }
 {
-    match enter(format, x) {
-        Preparation::Refused(why) => Answer::Refused(why),
-        Preparation::Ready(_) => Answer::Value(with_sign(x, false)),
-    }
+    answer_signed(format, x, false)
 }

@@ -13,14 +13,14 @@ use Rattle.number.specs.declared.Answer.{Answer}
 use Rattle.number.specs.declared.Answer.the-variants.{Refused}
 use Rattle.number.specs.Numbers.{member}
 use Rattle.number.specs.Entry.{all, entry, after, entered, Usable}
-use Rattle.number.proofs.Membership.{Member, member-made, usable}
+use Rattle.number.proofs.Membership.{Member, member-made, prepared-member, usable}
 use Rattle.number.proofs.Entries.{passed, one-member, goes-on, entry-made}
 
 -- what the inner functions ask
 pub inside : (f : Format) (x : Number) {q : Prepared} → entered f [] (x ∷ []) ≡ Ready q → Usable q × (member (q .format) x ≡ true)
 inside f x {q} h =
     let p = passed f [] (x ∷ []) h in
-    (usable (p .format) (p .is), ap (λ (r : Prepared). member (r .format) x) (p .is) ∙ one-member p)
+    (usable (p .format) (p .is), prepared-member (p .is) x (one-member p))
 
 -- what they answer for the prepared format, they answer for the format
 pub answered : (f : Format) (x : Number) {q : Prepared} (answer : Format → Answer) → entered f [] (x ∷ []) ≡ Ready q

@@ -3,20 +3,21 @@ use borrow.Author.Needs.{needs}
 use mathlib.Core.Path.{_∙_}
 use Rattle.format.specs.Directions.{sense}
 use Rattle.format.specs.Published.{decimal32}
+use Rattle.number.proofs.Membership.{prepared-member, usable}
 use Rattle.prepared_arithmetic.specs.Operations.{roundedSum}
 use Rattle.prepared_arithmetic.proofs.Prepared.{Delivers}
-use Rattle.arithmetic.proofs.DecimalFormat.{prepared-usable, prepared-member, operands, decimal32-sum}
+use Rattle.arithmetic.proofs.DecimalFormat.{decimal32-admitted, operands, decimal32-sum}
 use Rattle.arithmetic.proofs.decimal32.add.Statement.{statement}
 use Rattle.arithmetic.proofs.decimal32.add.Tie as tie
 
 wide-of-requires : tie.Need-wide-of-requires
-wide-of-requires c κs = let e = c .prepared-decimal32 .ensures in (prepared-usable e, prepared-member e _ (c .before .pre .0))
+wide-of-requires c κs = let e = c .prepared-decimal32 .ensures in (usable decimal32-admitted e, prepared-member e _ (c .before .pre .0))
 
 wide-of-requires-2 : tie.Need-wide-of-requires-2
 wide-of-requires-2 c κs =
     let p = c .before in
     let e = p .prepared-decimal32 .ensures in
-    (prepared-usable e, prepared-member e _ (p .before .pre .1))
+    (usable decimal32-admitted e, prepared-member e _ (p .before .pre .1))
 
 abbrev prepared : tie.After-wide-of2 → tie.After-prepared-decimal32
 prepared c = c .before .before
@@ -34,7 +35,7 @@ result c =
     decimal32-sum (prepared o .prepared-decimal32 .ensures) _ _ (o .before .wide-of .ensures) (o .wide-of2 .ensures) _ (c .sum .ensures)
 
 deliver-wide-requires : tie.Need-deliver-wide-requires
-deliver-wide-requires c κs = (prepared-usable (prepared (c .before) .prepared-decimal32 .ensures), result c .canonical)
+deliver-wide-requires c κs = (usable decimal32-admitted (prepared (c .before) .prepared-decimal32 .ensures), result c .canonical)
 
 returns : tie.Need-returns
 returns c = c .deliver-wide .ensures ∙ result (c .before) .is

@@ -5,9 +5,10 @@ use mathlib.Core.Path.{sym, _∙_}
 use native.Mathlib.Omega.{arith}
 use Rattle.format.specs.Directions.{sense}
 use Rattle.format.specs.Published.{decimal32}
+use Rattle.number.proofs.Membership.{prepared-member, usable}
 use Rattle.prepared_arithmetic.specs.Operations.{roundedQuotient}
 use Rattle.prepared_arithmetic.proofs.Prepared.{Delivers, divisor-none}
-use Rattle.arithmetic.proofs.DecimalFormat.{prepared-usable, prepared-member, operands, decimal32-quotient}
+use Rattle.arithmetic.proofs.DecimalFormat.{decimal32-admitted, operands, decimal32-quotient}
 use Rattle.arithmetic.proofs.decimal32.divide.Statement.{statement}
 use Rattle.arithmetic.proofs.decimal32.divide.Tie as tie
 
@@ -22,13 +23,13 @@ returns : tie.Need-returns
 returns c = let s = c .before .before .args in sym (divisor-none decimal32 (sense (s .direction)) (s .a) (s .b) (c .if1 .taken))
 
 wide-of-requires : tie.Need-wide-of-requires
-wide-of-requires c κs = let e = c .prepared-decimal32 .ensures in (prepared-usable e, prepared-member e _ (start c .pre .0))
+wide-of-requires c κs = let e = c .prepared-decimal32 .ensures in (usable decimal32-admitted e, prepared-member e _ (start c .pre .0))
 
 wide-of-requires-2 : tie.Need-wide-of-requires-2
 wide-of-requires-2 c κs =
     let p = c .before in
     let e = p .prepared-decimal32 .ensures in
-    (prepared-usable e, prepared-member e _ (start p .pre .1))
+    (usable decimal32-admitted e, prepared-member e _ (start p .pre .1))
 
 abbrev prepared : tie.After-wide-of2 → tie.After-prepared-decimal32
 prepared c = c .before .before
@@ -48,7 +49,7 @@ result c =
     decimal32-quotient (prepared o .prepared-decimal32 .ensures) _ _ (o .before .wide-of .ensures) (o .wide-of2 .ensures) _ (some (prepared o)) (c .quotient .ensures)
 
 deliver-wide-requires : tie.Need-deliver-wide-requires
-deliver-wide-requires c κs = (prepared-usable (prepared (c .before) .prepared-decimal32 .ensures), result c .canonical)
+deliver-wide-requires c κs = (usable decimal32-admitted (prepared (c .before) .prepared-decimal32 .ensures), result c .canonical)
 
 returns-2 : tie.Need-returns-2
 returns-2 c = c .deliver-wide .ensures ∙ result (c .before) .is

@@ -1,15 +1,17 @@
 -- `binary32_arithmetic::operations::operate` meets its contract.
 use borrow.Author.Needs.{needs}
-use mathlib.Core.Path.{_≡_, sym, ap, _∙_}
+use mathlib.Core.Path.{_≡_, sym, ap₂, _∙_}
 use mathlib.Core.Bool.{true}
 use Rattle.format.specs.declared.Format.{Format}
 use Rattle.format.specs.Directions.{sense}
+use Rattle.format.specs.Published.{binary32}
+use Rattle.number.specs.declared.Answer.{Answer}
 use Rattle.number.specs.Numbers.{member}
 use Rattle.number.specs.Entry.{Usable}
-use Rattle.prepared_arithmetic.specs.Operations.{roundedSum, roundedDifference, roundedProduct, roundedQuotient}
+use Rattle.number.proofs.Membership.{prepared-format, prepared-member, usable}
+use Rattle.binary32.proofs.Fields.{binary32-admitted}
 use Rattle.binary32_arithmetic.specs.declared.Operation.{Operation}
 use Rattle.binary32_arithmetic.specs.Calls.{roundedBy}
-use Rattle.binary32_arithmetic.proofs.Results.{usable-binary32, same-format, member-prepared}
 use Rattle.binary32_arithmetic.proofs.operations.operate.Statement.{statement}
 use Rattle.binary32_arithmetic.proofs.operations.operate.Tie as tie
 
@@ -19,7 +21,7 @@ asked : (c : tie.After-prepared-binary32) → let q = c .prepared-binary32 .resu
 asked c =
     let e = c .prepared-binary32 .ensures in
     let p = c .before .pre in
-    (usable-binary32 e, member-prepared e _ (p .0), member-prepared e _ (p .1))
+    (usable binary32-admitted e, prepared-member e _ (p .0), prepared-member e _ (p .1))
 
 add-requires : tie.Need-add-requires
 add-requires c κs = asked (c .before .before)
@@ -33,37 +35,25 @@ multiply-requires c κs = asked (c .before .before)
 divide-requires : tie.Need-divide-requires
 divide-requires c κs = asked (c .before .before)
 
+-- the operation that was told, of the prepared format, is the operation of format 2
+told : (c : tie.After-prepared-binary32) {o : Operation} {r : Answer} → c .before .args .operation ≡ o
+    → r ≡ roundedBy o (c .prepared-binary32 .result .format) (sense (c .before .args .direction)) (c .before .args .a) (c .before .args .b)
+    → r ≡ roundedBy (c .before .args .operation) binary32 (sense (c .before .args .direction)) (c .before .args .a) (c .before .args .b)
+told c e h =
+    let s = c .before .args in
+    h ∙ ap₂ (λ (o : Operation) (f : Format). roundedBy o f (sense (s .direction)) (s .a) (s .b)) (sym e) (prepared-format (c .prepared-binary32 .ensures))
+
 returns : tie.Need-returns
-returns c =
-    let t = c .before in
-    let k = t .before .before in
-    let s = k .before .args in
-    c .add .ensures ∙ ap (λ (f : Format). roundedSum f (sense (s .direction)) (s .a) (s .b)) (same-format (k .prepared-binary32 .ensures))
-    ∙ sym (ap (λ (o : Operation). roundedBy o (sense (s .direction)) (s .a) (s .b)) (t .enum-told .given .1))
+returns c = let t = c .before in told (t .before .before) (t .enum-told .given .1) (c .add .ensures)
 
 returns-2 : tie.Need-returns-2
-returns-2 c =
-    let t = c .before in
-    let k = t .before .before in
-    let s = k .before .args in
-    c .subtract .ensures ∙ ap (λ (f : Format). roundedDifference f (sense (s .direction)) (s .a) (s .b)) (same-format (k .prepared-binary32 .ensures))
-    ∙ sym (ap (λ (o : Operation). roundedBy o (sense (s .direction)) (s .a) (s .b)) (t .enum-told2 .given .1))
+returns-2 c = let t = c .before in told (t .before .before) (t .enum-told2 .given .1) (c .subtract .ensures)
 
 returns-3 : tie.Need-returns-3
-returns-3 c =
-    let t = c .before in
-    let k = t .before .before in
-    let s = k .before .args in
-    c .multiply .ensures ∙ ap (λ (f : Format). roundedProduct f (sense (s .direction)) (s .a) (s .b)) (same-format (k .prepared-binary32 .ensures))
-    ∙ sym (ap (λ (o : Operation). roundedBy o (sense (s .direction)) (s .a) (s .b)) (t .enum-told3 .given .1))
+returns-3 c = let t = c .before in told (t .before .before) (t .enum-told3 .given .1) (c .multiply .ensures)
 
 returns-4 : tie.Need-returns-4
-returns-4 c =
-    let t = c .before in
-    let k = t .before .before in
-    let s = k .before .args in
-    c .divide .ensures ∙ ap (λ (f : Format). roundedQuotient f (sense (s .direction)) (s .a) (s .b)) (same-format (k .prepared-binary32 .ensures))
-    ∙ sym (ap (λ (o : Operation). roundedBy o (sense (s .direction)) (s .a) (s .b)) (t .enum-told4 .given .1))
+returns-4 c = let t = c .before in told (t .before .before) (t .enum-told4 .given .1) (c .divide .ensures)
 
 pub operate-spec : {M : Type 1} → statement M
 operate-spec =

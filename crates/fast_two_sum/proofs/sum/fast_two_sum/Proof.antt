@@ -8,12 +8,12 @@ use Rattle.format.specs.declared.Prepared.{Prepared}
 use Rattle.format.specs.Formats.{preparedOf}
 use Rattle.format.specs.Directions.{direction}
 use Rattle.number.specs.declared.Number.{Number}
-use Rattle.number.proofs.Membership.{usable}
+use Rattle.number.proofs.Membership.{prepared-member, usable}
 use Rattle.number.proofs.Entries.{Passed, passed, two-members, goes-on, ends}
 use Rattle.fast_two_sum.specs.declared.StepsAnswer.the-variants.{Refused}
 use Rattle.fast_two_sum.specs.Calls.{threeSteps, fastTwoSum}
 use Rattle.fast_two_sum.proofs.Order.{order-passed, order-refused}
-use Rattle.fast_two_sum.proofs.Entered.{directed, prepared-member}
+use Rattle.fast_two_sum.proofs.Entered.{directed}
 use Rattle.fast_two_sum.proofs.sum.fast_two_sum.Statement.{statement}
 use Rattle.fast_two_sum.proofs.sum.fast_two_sum.Tie as tie
 
@@ -40,7 +40,7 @@ three-steps-requires : tie.Need-three-steps-requires
 three-steps-requires c κs =
     let p = ready (c .before .before .before .before .before .before .before) in
     let m = two-members p in
-    (usable (p .format) (p .is), prepared-member _ p (m .0), prepared-member _ p (m .1))
+    (usable (p .format) (p .is), prepared-member (p .is) _ (m .0), prepared-member (p .is) _ (m .1))
 
 returns : tie.Need-returns
 unfolding fastTwoSum

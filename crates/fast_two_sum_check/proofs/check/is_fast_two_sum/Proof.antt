@@ -4,11 +4,10 @@ use mathlib.Core.Path.{_≡_, sym, ap, _∙_}
 use mathlib.Core.Bool.{Bool, cond}
 use mathlib.Core.List.{[], _∷_}
 use Rattle.format.specs.declared.Prepared.{Prepared}
-use Rattle.number.proofs.Membership.{usable}
+use Rattle.number.proofs.Membership.{prepared-member, usable}
 use Rattle.number.proofs.Entries.{Passed, passed, goes-on, ends}
 use Rattle.fast_two_sum.specs.declared.Checked.the-variants.{Yes, No, Refused}
 use Rattle.fast_two_sum.proofs.Order.{order-passed, order-refused}
-use Rattle.fast_two_sum.proofs.Entered.{prepared-member}
 use Rattle.fast_two_sum_check.specs.Calls.{isTriple, checkedTriple}
 use Rattle.fast_two_sum_check.proofs.Entered.{five}
 use Rattle.fast_two_sum_check.proofs.check.is_fast_two_sum.Statement.{statement}
@@ -29,11 +28,11 @@ is-triple-requires c κs =
     let p = ready (c .before .before .before .before) in
     let m = five p in (
       usable (p .format) (p .is),
-      prepared-member _ p (m .first),
-      prepared-member _ p (m .second),
-      prepared-member _ p (m .third),
-      prepared-member _ p (m .fourth),
-      prepared-member _ p (m .fifth),
+      prepared-member (p .is) _ (m .first),
+      prepared-member (p .is) _ (m .second),
+      prepared-member (p .is) _ (m .third),
+      prepared-member (p .is) _ (m .fourth),
+      prepared-member (p .is) _ (m .fifth),
     )
 
 -- what the test says of the format
