@@ -27,13 +27,13 @@ add-requires : tie.Need-add-requires
 add-requires c κs = asked (c .before .before)
 
 subtract-requires : tie.Need-subtract-requires
-subtract-requires c κs = asked (c .before .before)
+subtract-requires c κs = let h = asked (c .before .before) in search needs
 
 multiply-requires : tie.Need-multiply-requires
 multiply-requires c κs = asked (c .before .before)
 
 divide-requires : tie.Need-divide-requires
-divide-requires c κs = asked (c .before .before)
+divide-requires c κs = let h = asked (c .before .before) in search needs
 
 -- the operation that was told, of the prepared format, is the operation of format 2
 told : (c : tie.After-prepared-binary32) {o : Operation} {r : Answer} → c .before .args .operation ≡ o

@@ -30,7 +30,7 @@ first-member : (c : tie.After-sum) → member (start₁ c .args .prepared .forma
 first-member c = rounded-member (known (start₁ c .pre .0) .admits) _ _ (first c)
 
 subtract-requires : tie.Need-subtract-requires
-subtract-requires c κs = let k = c .before in (start₁ k .pre .0, first-member k, start₁ k .pre .1)
+subtract-requires c κs = let p = start₁ (c .before) .pre in let x = first-member (c .before) in search needs
 
 returns-2 : tie.Need-returns-2
 returns-2 c =
@@ -50,7 +50,7 @@ second-member : (c : tie.After-difference) → member (start₂ c .args .prepare
 second-member c = rounded-member (known (start₂ c .pre .0) .admits) _ _ (second c)
 
 subtract-requires-2 : tie.Need-subtract-requires-2
-subtract-requires-2 c κs = let k = c .before in (start₂ k .pre .0, start₂ k .pre .2, second-member k)
+subtract-requires-2 c κs = let p = start₂ (c .before) .pre in let z = second-member (c .before) in search needs
 
 returns-3 : tie.Need-returns-3
 returns-3 c =
