@@ -1,15 +1,11 @@
 /* The C interface against this machine's binary32 arithmetic (fesetround, nextafterf) and, call by call, each refusal. Prints how
  * many comparisons were made; stops with an error at the first difference. */
 #include <fenv.h>
-#include <inttypes.h>
 #include <math.h>
-#include <stdio.h>
-#include <stdlib.h>
 #include <string.h>
 
+#include "compare.h"
 #include "zurkeb.h"
-
-static uint64_t comparisons;
 
 static float of_pattern(uint32_t n) {
     float x;
@@ -105,22 +101,6 @@ static void neighbours(uint32_t a) {
         fail("predecessor", a, 0, 0, ours, theirs);
 }
 
-static uint64_t state = 88172645463325252u;
-static uint32_t random32(void) {
-    state ^= state << 13;
-    state ^= state >> 7;
-    state ^= state << 17;
-    return (uint32_t)(state >> 16);
-}
-
-static void same(const char *what, uint64_t ours, uint64_t wanted) {
-    comparisons++;
-    if (ours != wanted) {
-        printf("%s: %" PRIu64 ", wanted %" PRIu64 "\n", what, ours, wanted);
-        exit(1);
-    }
-}
-
 /* One call for each refusal number, and results of each kind. */
 static void interface(void) {
     zurkeb_format d = {10, 3, -5, 5}, bad = {257, 3, -5, 5}, two = {2, 3, -9, 9};
@@ -171,7 +151,7 @@ static void interface(void) {
 }
 
 int main(int count, char **arguments) {
-    uint64_t rounds = count > 1 ? strtoull(arguments[1], NULL, 10) : 2000000;
+    uint64_t rounds = rounds_of(count, arguments, 2000000);
     static const uint32_t edges[] = {0,          1,          2,          0x007fffffu, 0x00800000u, 0x00800001u, 0x00ffffffu, 0x01000000u,
                                      0x33800000u, 0x34000000u, 0x3f7fffffu, 0x3f800000u, 0x3f800001u, 0x40000000u, 0x4b000000u, 0x4b7fffffu,
                                      0x4b800000u, 0x5f000000u, 0x7e7fffffu, 0x7e800000u, 0x7effffffu, 0x7f000000u, 0x7f7ffffeu, 0x7f7fffffu,
@@ -193,6 +173,5 @@ int main(int count, char **arguments) {
         operations(a, b);
         neighbours(a);
     }
-    printf("%" PRIu64 " comparisons, no difference\n", comparisons);
-    return 0;
+    return no_difference();
 }

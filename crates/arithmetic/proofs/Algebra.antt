@@ -7,6 +7,7 @@ use native.Mathlib.Nat.{mul-comm, mul-le-mul-right, pow-zero}
 use native.Mathlib.Decide.{decLe}
 use native.Mathlib.Omega.{arith}
 use lib.IntN.{ℤ, pos, negℤ, natAbs, _+ℤ_, _-ℤ_, +ℤ-comm}
+use Rattle.theory.specs.Lists.{all}
 use Rattle.theory.specs.Tests.{_and_}
 use Rattle.theory.specs.Signed.{signed}
 use Rattle.theory.proofs.Powers.{pow-add, pow-pos, pow-mono, pow-half}
@@ -23,7 +24,7 @@ use Rattle.number.specs.declared.Number.{Number}
 use Rattle.number.specs.declared.Answer.the-variants.{Value, Refused}
 use Rattle.number.specs.Exponents.{aboveZero, belowZero}
 use Rattle.number.specs.Numbers.{member, magnitude, value, greatest, number}
-use Rattle.number.specs.Entry.{all, entry, after, entered}
+use Rattle.number.specs.Entry.{entry, after, entered}
 use Rattle.number.specs.Signs.{negated}
 use Rattle.number.proofs.Membership.{Member, members, member-made}
 use Rattle.number.proofs.Values.{member-greatest, number-value, number-member}

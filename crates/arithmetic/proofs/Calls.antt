@@ -6,6 +6,7 @@ use mathlib.Core.Bool.{Bool, true, false, xor}
 use mathlib.Core.List.{[], _∷_}
 use native.Mathlib.Omega.{arith}
 use lib.IntN.{ℤ, pos, natAbs, _+ℤ_, _-ℤ_, _*ℤ_}
+use Rattle.theory.specs.Lists.{all}
 use Rattle.theory.specs.Tests.{_and_, unless}
 use Rattle.theory.specs.Signed.{signed, roundZ}
 use Rattle.theory.proofs.Tests.{and-left, and-right}
@@ -24,7 +25,7 @@ use Rattle.number.specs.declared.Answer.{Answer}
 use Rattle.number.specs.declared.Answer.the-variants.{Value, Refused}
 use Rattle.number.specs.Exponents.{aboveZero, belowZero}
 use Rattle.number.specs.Numbers.{member, magnitude, value, greatest}
-use Rattle.number.specs.Entry.{all, entry, after}
+use Rattle.number.specs.Entry.{entry, after}
 use Rattle.number.proofs.Membership.{Member, members, member-made}
 use Rattle.number.proofs.Entries.{pair-made, entry-made}
 use Rattle.wide.proofs.Signs.{signed-times}

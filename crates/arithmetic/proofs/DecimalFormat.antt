@@ -5,6 +5,7 @@ use mathlib.Core.List.{[], _∷_}
 use lib.IntN.{ℤ, pos, negsuc}
 use Prim.Native.Nat.{ℕ, _≤_}
 use borrow.Author.Tests.{eqb-true}
+use Rattle.theory.specs.Lists.{all}
 use Rattle.theory.specs.Tests.{_and_}
 use Rattle.theory.specs.Round as theory
 use Rattle.theory.proofs.Tests.{and-left, and-right, and-made}
@@ -19,7 +20,7 @@ use Rattle.format.proofs.PublishedFormats.{published-admitted}
 use Rattle.number.specs.declared.Number.{Number}
 use Rattle.number.specs.declared.Answer.{Answer}
 use Rattle.number.specs.declared.Answer.the-variants.{Refused}
-use Rattle.number.specs.Entry.{Usable, all, entry, after, entered}
+use Rattle.number.specs.Entry.{Usable, entry, after, entered}
 use Rattle.number.specs.Numbers.{equalZ, member}
 use Rattle.number.proofs.Entries.{entry-made, pair-made, after-passed}
 use Rattle.number.proofs.Membership.{equal-true, prepared-format, usable}

@@ -3,6 +3,7 @@ use Prim.Native.Nat.{ℕ}
 use mathlib.Core.Path.{_≡_, ap, ap₂, _∙_}
 use mathlib.Core.Bool.{true}
 use mathlib.Core.List.{[], _∷_}
+use Rattle.theory.specs.Lists.{all}
 use Rattle.theory.specs.Round as theory
 use Rattle.theory.proofs.Tests.{and-left}
 use Rattle.format.specs.declared.Format.{Format}
@@ -13,7 +14,7 @@ use Rattle.number.specs.declared.Number.{Number}
 use Rattle.number.specs.declared.Answer.{Answer}
 use Rattle.number.specs.declared.Answer.the-variants.{Refused}
 use Rattle.number.specs.Numbers.{member}
-use Rattle.number.specs.Entry.{Usable, all, entry, after, entered}
+use Rattle.number.specs.Entry.{Usable, entry, after, entered}
 use Rattle.number.proofs.Membership.{usable}
 use Rattle.number.proofs.Entries.{Passed, passed, two-members, goes-on}
 

@@ -9,6 +9,7 @@ use native.Mathlib.Omega.{arith}
 use native.Mathlib.Decide.{decLe}
 use lib.Dec.{eqb}
 use borrow.Author.Tests.{eqb-true, ne-eqb, le-leb, lt-leb, leb-true, leb-false}
+use Rattle.theory.specs.Lists.{all}
 use Rattle.theory.specs.Tests.{_and_, unless}
 use Rattle.theory.specs.Wide.{Wide}
 use Rattle.theory.specs.Signed.{signed}
@@ -20,7 +21,7 @@ use Rattle.format.proofs.Formats.{positional}
 use Rattle.number.specs.declared.Number.{Number}
 use Rattle.number.specs.declared.Answer.the-variants as answer
 use Rattle.number.specs.Numbers.{member, placeOf, magnitude, value, number, greatest}
-use Rattle.number.specs.Entry.{all, entry, after}
+use Rattle.number.specs.Entry.{entry, after}
 use Rattle.number.proofs.Membership.{Member, members, member-made}
 use Rattle.number.proofs.Values.{written, place-there, canonical-within, member-canonical, member-highest, number-of, own-sign, number-magnitude, number-value, number-member}
 use Rattle.number.proofs.Entries.{entry-made}

@@ -4,6 +4,7 @@ use Prim.Native.Nat.{ℕ}
 use mathlib.Core.Path.{_≡_, refl, sym, ap, ap₂, _∙_}
 use mathlib.Core.Bool.{Bool, true, false}
 use mathlib.Core.List.{[], _∷_}
+use Rattle.theory.specs.Lists.{all}
 use Rattle.theory.specs.Tests.{_and_, unless}
 use Rattle.theory.specs.Round.{Direction}
 use Rattle.theory.proofs.Tests.{and-made, unless-passed, unless-failed}
@@ -15,7 +16,7 @@ use Rattle.number.specs.declared.Number.{Number}
 use Rattle.number.specs.declared.Answer.{Answer}
 use Rattle.number.specs.declared.Answer.the-variants as answer
 use Rattle.number.specs.Numbers.{member}
-use Rattle.number.specs.Entry.{all, entry, after}
+use Rattle.number.specs.Entry.{entry, after}
 use Rattle.prepared_arithmetic.specs.Operations.{summed, subtracted, multiplied, divided}
 use Rattle.binary32.specs.declared.Pattern.{Pattern}
 use Rattle.binary32.specs.declared.Pattern.the-variants as pattern

@@ -4,6 +4,7 @@ use mathlib.Core.Path.{_≡_, refl, ap}
 use mathlib.Core.Bool.{xor}
 use mathlib.Core.List.{List, map}
 use lib.ListN.{getD}
+use Rattle.theory.specs.Lists.{all}
 use Rattle.theory.specs.Tests.{_and_, _or_, unless}
 use Rattle.theory.specs.Place.{search-place, place, step}
 use Rattle.theory.specs.Neighbours.{floor-to, ceil-to, lower, upper, lowerQ, upperQ}
@@ -13,7 +14,7 @@ use Rattle.theory.specs.Units.{ufp, ulp, search-zeros, zeros, uls}
 use Rattle.format.specs.Formats.{exponentsAdmitted, admitted}
 use Rattle.format.specs.Directions.{isDirection, direction}
 use Rattle.number.specs.Numbers.{equalZ, normal, small, isZero, member, magnitude, value, greatest, number, delivered}
-use Rattle.number.specs.Entry.{all, entry, after}
+use Rattle.number.specs.Entry.{entry, after}
 use Rattle.units.specs.Places.{firstPlace, lastPlace, leastPlace}
 use Rattle.units.specs.Neighbours.{predecessorOf, successorOf}
 use Rattle.prepared_arithmetic.specs.Operations.{rounded, roundedZ, roundedQuotient, summed, divided}

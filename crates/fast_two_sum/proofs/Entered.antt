@@ -3,12 +3,12 @@ use Prim.Native.Nat.{ℕ}
 use mathlib.Core.Path.{_≡_}
 use mathlib.Core.Bool.{true}
 use mathlib.Core.List.{List, [], _∷_}
+use Rattle.theory.specs.Lists.{all}
 use Rattle.theory.proofs.Tests.{and-left, and-right}
 use Rattle.format.specs.declared.Format.{Format}
 use Rattle.format.specs.declared.Prepared.{Prepared}
 use Rattle.format.specs.Directions.{isDirection}
 use Rattle.number.specs.declared.Number.{Number}
-use Rattle.number.specs.Entry.{all}
 use Rattle.number.proofs.Entries.{Passed}
 
 -- the three directions

@@ -7,6 +7,7 @@ use mathlib.Core.List.{[], _∷_}
 use mathlib.Core.Logic.{_⊎_, inl, inr, ⊎-elim}
 use native.Mathlib.Omega.{arith}
 use lib.IntN.{ℤ, natAbs, _+ℤ_, _-ℤ_}
+use Rattle.theory.specs.Lists.{all}
 use Rattle.theory.specs.Place.{Positional}
 use Rattle.theory.specs.Round.{Direction}
 use Rattle.theory.specs.Signed.{WideZ, roundZ}
@@ -21,7 +22,7 @@ use Rattle.format.specs.Directions.{direction}
 use Rattle.format.proofs.Formats.{Admitted, admitted-made, positional}
 use Rattle.number.specs.declared.Number.{Number}
 use Rattle.number.specs.Numbers.{member, value, greatest}
-use Rattle.number.specs.Entry.{all, entry, after}
+use Rattle.number.specs.Entry.{entry, after}
 use Rattle.number.proofs.Membership.{Member, members, member-made}
 use Rattle.number.proofs.Values.{member-greatest}
 use Rattle.number.proofs.Entries.{after-passed, entry-made, pair-made}

@@ -2,12 +2,12 @@
 use mathlib.Core.Path.{_≡_}
 use mathlib.Core.Bool.{true}
 use mathlib.Core.List.{[], _∷_}
+use Rattle.theory.specs.Lists.{all}
 use Rattle.theory.proofs.Tests.{and-left, and-right}
 use Rattle.format.specs.declared.Format.{Format}
 use Rattle.format.specs.declared.Prepared.{Prepared}
 use Rattle.number.specs.declared.Number.{Number}
 use Rattle.number.specs.Numbers.{member}
-use Rattle.number.specs.Entry.{all}
 use Rattle.number.proofs.Entries.{Passed}
 
 pub record Five (f : Format) (a b x z y : Number) : Type 0 where

@@ -1,5 +1,6 @@
 -- Formats, directions and refusals, as document 01 has them.
 pub mod Refusals
+pub mod Given
 pub mod Directions
 pub mod Formats
 pub mod Published

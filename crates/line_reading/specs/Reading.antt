@@ -4,8 +4,8 @@ use mathlib.Core.Bool.{Bool, cond}
 use mathlib.Core.List.{List, [], _∷_}
 use lib.Dec.{eqb, leb}
 use lib.ListN.{length}
+use Rattle.theory.specs.Lists.{all}
 use Rattle.theory.specs.Tests.{_and_, _or_}
-use Rattle.number.specs.Entry.{all}
 use Rattle.line_reading.specs.declared.Line.{Line}
 
 -- 0 to 9

@@ -10,10 +10,10 @@ use native.Mathlib.Omega.{arith}
 use lib.Dec.{eqb, leb}
 use lib.ListN.{length}
 use borrow.Author.Tests.{le-leb, lt-leb, ne-eqb}
+use Rattle.theory.specs.Lists.{all}
 use Rattle.theory.specs.Tests.{_and_}
 use Rattle.theory.proofs.Tests.{and-left, and-right}
 use Rattle.theory.proofs.Powers.{pow-mono}
-use Rattle.number.specs.Entry.{all}
 use Rattle.line_reading.specs.declared.Line.{Line}
 use Rattle.line_reading.specs.Reading.{isDigit, digitOf, isPattern, valueFrom, valueOf, known, bad, fresh, pushed, lineFrom, lineOf}
 use Rattle.line_reading.proofs.Digits.{digits, digit-value, digit-small}

@@ -11,9 +11,9 @@ use lib.Bits.{or-lt}
 use lib.ListN.{length, drop, getD}
 use lib.Seq.{drop-cons}
 use borrow.Author.Tests.{eq-eqb, ne-eqb, ltb-true}
+use Rattle.theory.specs.Lists.{all}
 use Rattle.theory.specs.Tests.{_and_, _or_}
 use Rattle.theory.proofs.Tests.{never, not-true, and-left, and-right, and-made, or-cases}
-use Rattle.number.specs.Entry.{all}
 use Rattle.lanes.specs.Lanes.{word, Lanewise, Joined, digitAt, digitsOf, fromDigits, lowValue, lowerCase}
 use Rattle.lanes.specs.Digits.{glyph}
 use Rattle.lanes.proofs.WordLaws.{row, word-as, word-upto, same-bytes}

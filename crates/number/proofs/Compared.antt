@@ -5,6 +5,7 @@ use mathlib.Core.List.{[], _∷_}
 use Prim.Native.Nat.{ℕ}
 use native.Mathlib.Omega.{arith}
 use lib.Signed.{_<ℤ_}
+use Rattle.theory.specs.Lists.{all}
 use Rattle.theory.proofs.Integers.{lt-parts, parts-lt}
 use Rattle.format.specs.declared.Format.{Format}
 use Rattle.format.specs.declared.Refusal.{Refusal}
@@ -17,7 +18,7 @@ use Rattle.number.specs.declared.Number.{Number}
 use Rattle.number.specs.declared.Ordered.{Ordered}
 use Rattle.number.specs.declared.Ordered.the-variants.{Less, Equal, Greater, Refused}
 use Rattle.number.specs.Numbers.{value}
-use Rattle.number.specs.Entry.{all, entry, after, entered}
+use Rattle.number.specs.Entry.{entry, after, entered}
 use Rattle.number.specs.Order.{orderZ, compared}
 use Rattle.number.proofs.Membership.{members}
 use Rattle.number.proofs.Values.{member-unique}

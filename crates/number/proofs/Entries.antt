@@ -5,6 +5,7 @@ use mathlib.Core.Bool.{Bool, true, false}
 use mathlib.Core.List.{List, [], _∷_}
 use Prim.Native.Nat.{ℕ}
 use native.Mathlib.Omega.{arith}
+use Rattle.theory.specs.Lists.{all}
 use Rattle.theory.specs.Tests.{_and_, unless}
 use Rattle.theory.proofs.Tests.{and-left, and-right, and-made}
 use Rattle.format.specs.declared.Format.{Format}
@@ -19,7 +20,7 @@ use Rattle.format.specs.Formats.{admitted, preparedOf, preparation, formatCheck
 use Rattle.format.specs.Directions.{isDirection}
 use Rattle.number.specs.declared.Number.{Number}
 use Rattle.number.specs.Numbers.{member}
-use Rattle.number.specs.Entry.{all, entry, after, entered}
+use Rattle.number.specs.Entry.{entry, after, entered}
 
 -- ---- the outcome of three tests
 abbrev tested : (a b c : Bool) → Verdict

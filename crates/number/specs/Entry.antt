@@ -1,9 +1,10 @@
 -- The checks that every call begins with, in the order of document 01: the format (1), the directions (2), the numbers (3).
 use Prim.Native.Nat.{ℕ}
 use mathlib.Core.Path.{_≡_}
-use mathlib.Core.Bool.{Bool, true}
-use mathlib.Core.List.{List, [], _∷_}
-use Rattle.theory.specs.Tests.{_and_, unless}
+use mathlib.Core.Bool.{true}
+use mathlib.Core.List.{List}
+use Rattle.theory.specs.Tests.{unless}
+use Rattle.theory.specs.Lists.{all}
 use Rattle.format.specs.declared.Format.{Format}
 use Rattle.format.specs.declared.Verdict.{Verdict}
 use Rattle.format.specs.declared.Verdict.the-variants as verdict
@@ -16,11 +17,6 @@ use Rattle.format.specs.Formats.{admitted, preparedOf}
 use Rattle.format.specs.Directions.{isDirection}
 use Rattle.number.specs.declared.Number.{Number}
 use Rattle.number.specs.Numbers.{member}
-
--- every entry of a list passes
-unfoldable pub all : {A : Type 0} → (A → Bool) → List A → Bool
-all test [] = true
-all test (x ∷ xs) = test x and all test xs
 
 unfoldable pub entry : Format → (directions : List ℕ) (numbers : List Number) → Verdict
 entry f directions numbers =

@@ -4,6 +4,7 @@ use Prim.Native.Nat.{ℕ}
 use mathlib.Core.Path.{_≡_, refl}
 use mathlib.Core.Bool.{false, xor}
 use lib.IntN.{ℤ, pos, negsuc}
+use Rattle.theory.specs.Lists.{all}
 use Rattle.theory.specs.Tests.{_and_, _or_, unless}
 use Rattle.theory.specs.Place.{place, step}
 use Rattle.theory.specs.Neighbours.{floor-to, ceil-to, lower, upper, lowerQ, upperQ}
@@ -17,7 +18,7 @@ use Rattle.format.specs.Formats.{exponentsAdmitted, admitted}
 use Rattle.number.specs.declared.Number.{Number}
 use Rattle.number.specs.declared.Answer.the-variants.{Value, Refused}
 use Rattle.number.specs.Numbers.{equalZ, normal, small, isZero, member, magnitude, value, greatest, number, delivered}
-use Rattle.number.specs.Entry.{all, entry, after}
+use Rattle.number.specs.Entry.{entry, after}
 use Rattle.prepared_arithmetic.specs.Operations.{rounded, roundedZ, roundedProduct, summed, subtracted, multiplied}
 use Rattle.rump_premises.specs.Premises.{premise, firstPremise}
 use Rattle.rump.specs.Routes.{ufpRoute}

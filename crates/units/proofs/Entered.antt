@@ -2,6 +2,7 @@
 use mathlib.Core.Path.{_≡_, refl, ap, _∙_}
 use mathlib.Core.Bool.{true}
 use mathlib.Core.List.{[], _∷_}
+use Rattle.theory.specs.Lists.{all}
 use Rattle.theory.proofs.Tests.{and-made}
 use Rattle.format.specs.declared.Format.{Format}
 use Rattle.format.specs.declared.Verdict.{Verdict}
@@ -12,7 +13,7 @@ use Rattle.number.specs.declared.Number.{Number}
 use Rattle.number.specs.declared.Answer.{Answer}
 use Rattle.number.specs.declared.Answer.the-variants.{Refused}
 use Rattle.number.specs.Numbers.{member}
-use Rattle.number.specs.Entry.{all, entry, after, entered, Usable}
+use Rattle.number.specs.Entry.{entry, after, entered, Usable}
 use Rattle.number.proofs.Membership.{Member, member-made, prepared-member, usable}
 use Rattle.number.proofs.Entries.{passed, one-member, goes-on, entry-made}
 

@@ -9,9 +9,9 @@ use lib.Dec.{leb, ltb}
 use lib.ListN.{length, getD, take, drop-of-length-le}
 use lib.Seq.{slice, slice-empty, slice-cons, length-slice, length-take-le}
 use borrow.Author.Tests.{lt-ltb, le-ltb, le-leb, leb-true, eq-eqb, ne-eqb}
+use Rattle.theory.specs.Lists.{all}
 use Rattle.theory.specs.Tests.{_and_, unless}
 use Rattle.theory.proofs.Tests.{and-left, and-right, and-made, refuted}
-use Rattle.number.specs.Entry.{all}
 use Rattle.vector_words.specs.declared.Span.{Span}
 use Rattle.vector_words.specs.declared.Natural.{Natural}
 use Rattle.vector_words.specs.Words.{Spans}

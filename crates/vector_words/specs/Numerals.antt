@@ -5,9 +5,9 @@ use mathlib.Core.List.{List, [], _∷_}
 use lib.Dec.{eqb, leb, ltb}
 use lib.ListN.{length}
 use lib.IntN.{ℤ, pos}
+use Rattle.theory.specs.Lists.{all}
 use Rattle.theory.specs.Tests.{_and_, unless}
 use Rattle.theory.specs.Signed as theory
-use Rattle.number.specs.Entry.{all}
 use Rattle.vector_words.specs.declared.Natural.{Natural}
 use Rattle.vector_words.specs.declared.Integer.{Integer}
 use Rattle.vector_words.specs.Words.{wordAt}
