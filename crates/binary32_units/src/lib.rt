@@ -47,7 +47,7 @@ fn last_place(pattern: u32) -> Pattern
         return Pattern::Written(1);
     }
     if field < 24 {
-        return Pattern::Written(powers::power(2, field - 1));
+        return Pattern::Written(format::powers::power(2, field - 1));
     }
     Pattern::Written((field - 23) * 8388608)
 }

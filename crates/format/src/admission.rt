@@ -5,6 +5,8 @@ use crate::Prepared;
 use crate::Refusal;
 use crate::Scale;
 use crate::Verdict;
+use crate::powers::fits;
+use crate::powers::power;
 ghost use mathlib.Core.Path.{_≡_};
 ghost use mathlib.Core.Bool.{true};
 ghost use lib.IntN.{_-ℤ_, natAbs};
@@ -42,7 +44,7 @@ fn is_admitted(format: Format) -> bool
     if 31 < digits {
         return false;
     }
-    if !powers::fits(base, digits) {
+    if !fits(base, digits) {
         return false;
     }
     exponents_admitted(format.emin, format.emax)
@@ -65,7 +67,7 @@ pub fn prepare(format: Format) -> Preparation
     }
     let base = format.base;
     let digits = format.digits;
-    let full = powers::power(base, digits - 1);
+    let full = power(base, digits - 1);
     let scale = Scale {
         base: base,
         digits: digits,

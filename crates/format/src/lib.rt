@@ -1,6 +1,7 @@
 // Number formats: which are admitted, what is prepared from one, the published ones, and the numbered directions and refusals.
 pub mod admission;
 pub mod directions;
+pub mod powers;
 pub mod published;
 pub mod refusals;
 

@@ -6,7 +6,7 @@ ghost use Prim.Native.Nat.{_*_, _<_, _≤_, _^_};
 ghost use Rattle.format.specs.Formats.{Scaled};
 ghost use Rattle.rounding.specs.Digits.{Digits};
 
-// base ^ k, for k up to the digits. The table is read only where the scale does not have the power.
+// base ^ k, for k up to the digits, worked out only where the scale does not have the power.
 fn power_within(scale: Scale, k: u32) -> Significand
     requires { ⌜ Scaled scale × (k ≤ scale .digits) ⌝ }
     ensures { λ r. ⌜ r ≡ scale .base ^ k ⌝ }
@@ -20,7 +20,7 @@ fn power_within(scale: Scale, k: u32) -> Significand
     if k + 1 == scale.digits {
         return scale.full;
     }
-    powers::power(scale.base, k)
+    format::powers::power(scale.base, k)
 }
 
 // base ^ k, for k up to twice the digits.

@@ -19,7 +19,7 @@ pub fn power_number(prepared: Prepared, k: u32) -> Number
 {
     let digits = prepared.scale.digits;
     if k < digits {
-        let significand = powers::power(prepared.scale.base, k);
+        let significand = format::powers::power(prepared.scale.base, k);
         return number_at(prepared, false, significand, 0);
     }
     number_at(prepared, false, prepared.scale.full, k + 1 - digits)

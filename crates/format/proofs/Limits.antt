@@ -1,0 +1,64 @@
+-- The limit of each exponent, by one computed test over all of them: its power is within 2 ^ 31, and that of the next base is not.
+use mathlib.Core.Path.{_≡_, refl, sym, _∙_, subst}
+use mathlib.Core.Bool.{Bool, true, false}
+use mathlib.Core.Logic.{⊎-elim}
+use Prim.Native.Nat.{ℕ, zero, suc, _+_, _-_, _^_, _≤_, _<_}
+use native.Mathlib.Omega.{arith}
+use native.Mathlib.Decide.{ℕ-discrete}
+use native.Mathlib.Nat.{pow-le-pow-left, pow-le-pow-right, not-suc-le-zero, le-trans, lt-of-not-le}
+use lib.Dec.{leb, ltb, eqb}
+use borrow.Author.Tests.{le-leb, lt-leb, leb-true, leb-false, ltb-true, eqb-true}
+use Rattle.theory.specs.Tests.{_and_, _or_}
+use Rattle.theory.proofs.Tests.{and-left, and-right, or-cases}
+use Rattle.format.specs.Limits.{limit}
+
+-- the test passes at each number below n
+unfoldable pub below : (ℕ → Bool) → ℕ → Bool
+below test zero = true
+below test (suc n) = test n and below test n
+
+at-below : (test : ℕ → Bool) (n : ℕ) → below test n ≡ true → (k : ℕ) → k < n → test k ≡ true
+unfolding below
+at-below test zero t k h = absurd (not-suc-le-zero h)
+at-below test (suc n) t k h = go (ℕ-discrete k n) (at-below test n (and-right (test n) (below test n) t) k)
+  where
+    go : Dec (k ≡ n) → (k < n → test k ≡ true) → test k ≡ true
+    go (yes e) r = subst (λ (m : ℕ). test m ≡ true) (sym e) (and-left (test n) (below test n) t)
+    go (no ne) r = r (omega arith)
+
+-- the limit is r from lo on, for n exponents
+abbrev pub same : (r lo : ℕ) → ℕ → Bool
+same r lo i = eqb (limit (i + lo)) r
+
+pub limit-from : (r lo n : ℕ) → below (same r lo) n ≡ true → (k : ℕ) → lo ≤ k → k < n + lo → r ≡ limit k
+limit-from r lo n t k l h =
+    let from : k - lo + lo ≡ k = omega arith in
+    sym (subst (λ (m : ℕ). limit m ≡ r) from (eqb-true _ _ (at-below (same r lo) n t (k - lo) (omega arith))))
+
+-- the limit's power is at most 2 ^ 31; that of the next base is above it, where there is one
+abbrev greatest : ℕ → Bool
+greatest k = leb (limit k ^ k) (2 ^ 31) and (leb 256 (limit k) or ltb (2 ^ 31) (suc (limit k) ^ k))
+
+computed : below greatest 32 ≡ true
+unfolding below _and_ _or_
+computed = refl
+
+-- a base up to the limit has its power within 2 ^ 31, and no other up to 256 has
+within : (b k : ℕ) → k < 32 → b ≤ limit k → b ^ k ≤ 2 ^ 31
+within b k h l = le-trans (pow-le-pow-left l k) (leb-true _ _ (and-left _ _ (at-below greatest 32 computed k h)))
+
+beyond : (b k : ℕ) → k < 32 → b ≤ 256 → limit k < b → 2 ^ 31 < b ^ k
+beyond b k h m l =
+    ⊎-elim (λ e. absurd (omega (arith, leb-true 256 (limit k) e))) (λ e. le-trans (ltb-true _ _ e) (pow-le-pow-left l k))
+    (or-cases _ _ (and-right _ _ (at-below greatest 32 computed k h)))
+
+pub limit-test : (b k : ℕ) → k < 32 → b ≤ 256 → leb b (limit k) ≡ leb (b ^ k) (2 ^ 31)
+limit-test b k h m = go (leb b (limit k)) refl
+  where
+    go : (t : Bool) → leb b (limit k) ≡ t → t ≡ leb (b ^ k) (2 ^ 31)
+    go true e = sym (le-leb _ _ (within b k h (leb-true _ _ e)))
+    go false e = sym (lt-leb _ _ (beyond b k h m (leb-false _ _ e)))
+
+-- a power of at least 2 that is at most 2 ^ 31 has an exponent of at most 31
+pub exponent-most : (b k : ℕ) → 2 ≤ b → b ^ k ≤ 2 ^ 31 → k < 32
+exponent-most b k h p = lt-of-not-le (λ (l : 32 ≤ k). omega (arith, pow-le-pow-left h k, pow-le-pow-right {n = 2} (omega arith) l))

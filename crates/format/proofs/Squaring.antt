@@ -1,0 +1,59 @@
+-- Powers by repeated squaring, and the shift that is a power of two.
+use mathlib.Core.Path.{_≡_, refl, sym, _∙_, ap}
+use Prim.Native.Nat.{ℕ, zero, suc, _+_, _*_, _/_, _%_, _^_, _≤_, _<_}
+use native.Mathlib.Omega.{arith}
+use native.Mathlib.Nat.{pow-zero, pow-succ', one-le-pow, mul-le-mul-left, mul-le-mul-right}
+use lib.Dec.{lit<}
+use lib.Pow.{shl-exact}
+
+-- 1 shifted by k places
+pub one-shl : (k : ℕ) → k < 32 → (1 * 2 ^ k) % 2 ^ 32 ≡ 2 ^ k
+one-shl k h = shl-exact {a = 1} 1 k 32 (lit< tt) (omega arith) ∙ omega arith
+
+pub square-power : (s q : ℕ) → s ^ (q + q) ≡ (s * s) ^ q
+square-power s zero = pow-zero s ∙ sym (pow-zero (s * s))
+square-power s (suc q) =
+    let two : suc q + suc q ≡ suc (suc (q + q)) = omega arith in
+    rw (two, pow-succ' s (suc (q + q)), pow-succ' s (q + q), pow-succ' (s * s) q, square-power s q) (omega arith)
+
+odd-power : (s n : ℕ) → n % 2 ≡ 1 → s ^ n ≡ s * (s * s) ^ (n / 2)
+odd-power s n h =
+    let same : n ≡ suc (n / 2 + n / 2) = omega arith in
+    ap (λ (m : ℕ). s ^ m) same ∙ pow-succ' s (n / 2 + n / 2) ∙ ap (λ (x : ℕ). s * x) (square-power s (n / 2))
+
+even-power : (s n : ℕ) → ¬ (n % 2 ≡ 1) → s ^ n ≡ (s * s) ^ (n / 2)
+even-power s n h =
+    let same : n ≡ n / 2 + n / 2 = omega arith in
+    ap (λ (m : ℕ). s ^ m) same ∙ square-power s (n / 2)
+
+-- r steps of the way: what is collected, times what is left, is the power
+pub record Way (power result square rest : ℕ) : Type 0 where
+  pub is : result * square ^ rest ≡ power
+  pub some : 1 ≤ result
+  pub least : 1 ≤ square
+
+pub way-odd : {P r s n : ℕ} → Way P r s n → n % 2 ≡ 1 → Way P (r * s) (s * s) (n / 2)
+way-odd {P} {r} {s} {n} w h =
+    record { is = omega (arith, w .is, ap (λ (x : ℕ). r * x) (odd-power s n h)); some = omega (arith, mul-le-mul-left r (w .least), w .some); least = omega (arith, mul-le-mul-left s (w .least), w .least) }
+
+pub way-even : {P r s n : ℕ} → Way P r s n → ¬ (n % 2 ≡ 1) → Way P (r * 1) (s * s) (n / 2)
+way-even {P} {r} {s} {n} w h =
+    record { is = omega (arith, w .is, ap (λ (x : ℕ). r * x) (even-power s n h)); some = omega (arith, w .some); least = omega (arith, mul-le-mul-left s (w .least), w .least) }
+
+-- the square is at most the power, while something is left
+pub way-square : {P r s : ℕ} (n : ℕ) → Way P r s n → ¬ (n ≡ 0) → r * s ≤ P
+way-square zero w h = absurd (h refl)
+way-square {P} {r} {s} (suc n) w h =
+    omega (arith, w .is, ap (λ (x : ℕ). r * x) (pow-succ' s n), mul-le-mul-left (r * s) (one-le-pow n s (w .least)))
+
+pub way-end : {P r s : ℕ} → Way P r s 0 → r ≡ P
+way-end {P} {r} {s} w = omega (arith, w .is, ap (λ (x : ℕ). r * x) (pow-zero s))
+
+pub way-first : (b k : ℕ) → 2 ≤ b → Way (b ^ k) 1 b k
+way-first b k h = record { is = omega arith; some = omega arith; least = omega arith }
+
+-- the next square fits into 64 bits
+pub square-fits : {P r s : ℕ} (n : ℕ) → Way P r s n → ¬ (n ≡ 0) → P ≤ 2 ^ 31 → s * s < 2 ^ 64
+square-fits {P} {r} {s} n w h m =
+    let low : s ≤ 2 ^ 31 = omega (arith, way-square n w h, mul-le-mul-right s (w .some)) in
+    omega (arith, mul-le-mul-left s low, mul-le-mul-right (2 ^ 31) low)

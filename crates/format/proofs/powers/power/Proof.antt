@@ -1,0 +1,21 @@
+-- A shift in base 2, else squaring.
+use borrow.Author.Needs.{needs}
+use native.Mathlib.Omega.{arith}
+use mathlib.Core.Path.{_≡_, sym, ap, _∙_}
+use Prim.Native.Nat.{ℕ, _^_, _<_}
+use Rattle.format.proofs.Limits.{exponent-most}
+use Rattle.format.proofs.Squaring.{one-shl}
+use Rattle.format.proofs.powers.power.Statement.{statement}
+use Rattle.format.proofs.powers.power.Tie as tie
+
+exponent : (c : tie.Start) → c .args .k < 32
+exponent c = exponent-most (c .args .base) (c .args .k) (c .pre .0) (c .pre .2)
+
+shl-result : tie.Need-shl-result
+shl-result c = exponent (c .before)
+
+returns : tie.Need-returns
+returns c = one-shl (c .before .args .k) (exponent (c .before)) ∙ ap (λ (b : ℕ). b ^ c .before .args .k) (sym (c .if1 .taken))
+
+pub power-spec : {M : Type 1} → statement M
+power-spec = tie.close (tie.spec shl-result returns (λ c κs. search needs) (λ c. search needs))
