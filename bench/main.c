@@ -3,6 +3,7 @@
 #include <inttypes.h>
 #include <stdio.h>
 
+#include "fractions.h"
 #include "operands.h"
 #include "peers.h"
 #include "programs.h"
@@ -257,6 +258,10 @@ int main(void) {
     against_peer(&mpfr_peer, &settings[0]);
     against_peer(&intel_peer, &settings[1]);
     all_formats(settings, count);
+    printf("\n| fractions | ns | median | quotient ns | median | ratio |\n|---|---|---|---|---|---|\n");
+    for (int s = 0; s < count; s++)
+        time_fractions(settings[s].name, settings[s].format);
+    time_fractions("decimal, 7 digits, Emax 89", (zurkeb_format){10, 7, -101, 89});
     routes(&settings[0]);
     three_steps(&settings[0]);
     all_patterns(&settings[0]);

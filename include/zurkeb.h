@@ -123,6 +123,8 @@ zurkeb_number_answer zurkeb_sum(zurkeb_format format, uint32_t direction, zurkeb
 zurkeb_number_answer zurkeb_difference(zurkeb_format format, uint32_t direction, zurkeb_number a, zurkeb_number b);
 zurkeb_number_answer zurkeb_product(zurkeb_format format, uint32_t direction, zurkeb_number a, zurkeb_number b);
 zurkeb_number_answer zurkeb_quotient(zurkeb_format format, uint32_t direction, zurkeb_number a, zurkeb_number b);
+/* numerator / denominator, two whole numbers, rounded once in the direction. Refuses 1, 2, 4, 5. */
+zurkeb_number_answer zurkeb_fraction(zurkeb_format format, uint32_t direction, int32_t numerator, uint32_t denominator);
 
 /* Rump's routes by the operations alone: the first place by figure 1, the last place by figures 3, 4 and 5. Where the premise
  * holds they answer what zurkeb_ufp and zurkeb_ulp answer. Refuse 1, 3, 8. */

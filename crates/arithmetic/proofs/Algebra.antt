@@ -104,7 +104,7 @@ plus : (t : Bool) (n m : ℕ) → signed t n ≡ pos m → 1 ≤ m → t ≡ fal
 plus true n m e h = absurd (omega (arith, neg-above (pos n), ap above e))
 plus false n m e h = refl
 
-xor-plus : (s t : Bool) → t ≡ false → xor s t ≡ s
+pub xor-plus : (s t : Bool) → t ≡ false → xor s t ≡ s
 unfolding xor
 xor-plus true t e = rw e
 xor-plus false t e = rw e
@@ -160,7 +160,7 @@ module _ {f : Format} {d : ℕ} {x u : Number} (c : Checked f d x u) where
 -- 1 is a number of the format exactly where Emin ≤ 0 and -p < Emax
 module _ {f : Format} (ok : Admitted f) where
   -- Emax - Emin, for Emin at most 0
-  reach : aboveZero (f .emin) ≡ 0 → highestPlace f + belowZero (f .emax) ≡ aboveZero (f .emax) + belowZero (f .emin)
+  pub reach : aboveZero (f .emin) ≡ 0 → highestPlace f + belowZero (f .emax) ≡ aboveZero (f .emax) + belowZero (f .emin)
   reach low =
       let d = distances (ok .range) in
       omega (arith, size-parts (f .emax -ℤ f .emin), parts-above (f .emin), parts-below (f .emin), parts-above (f .emax), parts-below (f .emax))

@@ -89,7 +89,7 @@ module _ (f : Format) (d : ℕ) (a b : Number) (h : isCall f d a b ≡ true) whe
   pub call-answered : (inner : Format → theory.Direction → Answer) {s : theory.Direction} {r : Answer} → s ≡ direction d → r ≡ inner decimal32 s
       → r ≡ after (entry f (d ∷ []) (a ∷ b ∷ [])) Refused (inner f (direction d))
   call-answered inner e k =
-      answered decimal32 d a b entrance inner e k
+      answered decimal32 d (a ∷ b ∷ []) entrance inner e k
       ∙ ap (λ (g : Format). after (entry g (d ∷ []) (a ∷ b ∷ [])) Refused (inner g (direction d))) (sym call-format)
 
 module _ {q : Prepared} (e : q ≡ preparedOf decimal32) where

@@ -2,7 +2,7 @@
 use Prim.Native.Nat.{ℕ}
 use mathlib.Core.Path.{_≡_, ap, ap₂, _∙_}
 use mathlib.Core.Bool.{true}
-use mathlib.Core.List.{[], _∷_}
+use mathlib.Core.List.{List, [], _∷_}
 use Rattle.theory.specs.Lists.{all}
 use Rattle.theory.specs.Round as theory
 use Rattle.theory.proofs.Tests.{and-left}
@@ -18,30 +18,36 @@ use Rattle.number.specs.Entry.{Usable, entry, after, entered}
 use Rattle.number.proofs.Membership.{usable}
 use Rattle.number.proofs.Entries.{Passed, passed, two-members, goes-on}
 
--- a prepared format, a direction and two of its numbers
-pub record Operation (f : Format) (d : ℕ) (a b : Number) (q : Prepared) : Type 0 where
+-- a prepared format and a direction
+pub record Entrance (f : Format) (d : ℕ) (q : Prepared) : Type 0 where
   pub usable : Usable q
   pub same : q .format ≡ f
   pub directed : isDirection d ≡ true
-  pub first : member (q .format) a ≡ true
-  pub second : member (q .format) b ≡ true
 
-module _ (f : Format) (d : ℕ) (a b : Number) {q : Prepared} (h : entered f (d ∷ []) (a ∷ b ∷ []) ≡ Ready q) where
-  pub operation : Operation f d a b q
+module _ (f : Format) (d : ℕ) (xs : List Number) {q : Prepared} (h : entered f (d ∷ []) xs ≡ Ready q) where
+  pub entrance : Entrance f d q
   unfolding all
-  operation =
-      let p : Passed f (d ∷ []) (a ∷ b ∷ []) q = passed f (d ∷ []) (a ∷ b ∷ []) h in
-      let same : q .format ≡ f = ap (λ (r : Prepared). r .format) (p .is) in
-      let m = two-members p in
+  entrance =
+      let p : Passed f (d ∷ []) xs q = passed f (d ∷ []) xs h in
       record {
         usable = usable (p .format) (p .is);
-        same = same;
+        same = ap (λ (r : Prepared). r .format) (p .is);
         directed = and-left _ _ (p .directed);
-        first = rw same (m .0);
-        second = rw same (m .1);
       }
 
   -- the inner function's answer is the call's
   pub answered : (inner : Format → theory.Direction → Answer) {s : theory.Direction} {r : Answer} → s ≡ direction d → r ≡ inner (q .format) s
-      → r ≡ after (entry f (d ∷ []) (a ∷ b ∷ [])) Refused (inner f (direction d))
-  answered inner e k = k ∙ ap₂ inner (operation .same) e ∙ goes-on f (d ∷ []) (a ∷ b ∷ []) Refused (inner f (direction d)) h
+      → r ≡ after (entry f (d ∷ []) xs) Refused (inner f (direction d))
+  answered inner e k = k ∙ ap₂ inner (entrance .same) e ∙ goes-on f (d ∷ []) xs Refused (inner f (direction d)) h
+
+-- with two numbers of the format
+pub record Operation (f : Format) (d : ℕ) (a b : Number) (q : Prepared) : Type 0 where
+  pub entrance : Entrance f d q
+  pub first : member (q .format) a ≡ true
+  pub second : member (q .format) b ≡ true
+
+pub operation : (f : Format) (d : ℕ) (a b : Number) {q : Prepared} → entered f (d ∷ []) (a ∷ b ∷ []) ≡ Ready q → Operation f d a b q
+operation f d a b h =
+    let e = entrance f d (a ∷ b ∷ []) h in
+    let m = two-members (passed f (d ∷ []) (a ∷ b ∷ []) h) in
+    record { entrance = e; first = rw (e .same) (m .0); second = rw (e .same) (m .1) }

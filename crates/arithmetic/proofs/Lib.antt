@@ -5,3 +5,4 @@ pub mod DecimalFormat
 pub mod Calls
 pub mod Algebra
 pub mod Enclosure
+pub mod FractionLaws

@@ -1,4 +1,5 @@
 // Formats, numbers, places, neighbours and operations, for C.
+use arithmetic::fraction::fraction;
 use arithmetic::product::product;
 use arithmetic::quotient::quotient;
 use arithmetic::sum::difference;
@@ -32,7 +33,7 @@ ghost use Rattle.number.specs.Order.{compared};
 ghost use Rattle.number.specs.Signs.{negated, unsigned};
 ghost use Rattle.units.specs.Places.{firstPlace, lastPlace, leastPlace};
 ghost use Rattle.units.specs.Neighbours.{predecessorOf, successorOf};
-ghost use Rattle.prepared_arithmetic.specs.Operations.{summed, subtracted, multiplied, divided};
+ghost use Rattle.prepared_arithmetic.specs.Operations.{summed, subtracted, multiplied, divided, fractioned};
 ghost use Rattle.c_answers.specs.Answers.{numberOut, orderOut, publishedOut, verdictOut};
 
 // 0 if the format is admitted, else 1.
@@ -168,4 +169,17 @@ pub extern "C" fn zurkeb_quotient(
     ensures { λ r. ⌜ r ≡ numberOut (divided format direction a b) ⌝ }
 {
     number_out(quotient(format, direction, a, b))
+}
+
+// numerator / denominator. Refuses 1, 2, 4, 5.
+#[no_mangle]
+pub extern "C" fn zurkeb_fraction(
+    format: Format,
+    direction: u32,
+    numerator: i32,
+    denominator: u32,
+) -> NumberAnswer
+    ensures { λ r. ⌜ r ≡ numberOut (fractioned format direction numerator denominator) ⌝ }
+{
+    number_out(fraction(format, direction, numerator, denominator))
 }

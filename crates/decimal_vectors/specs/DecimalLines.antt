@@ -1,7 +1,8 @@
--- Lines of numbers: `op base digits emin emax direction s m e -> answer`, with a second `s m e` where the call takes two. The answer is
+-- Lines of numbers: `op base digits emin emax direction s m e -> answer`, with a second `s m e` where the call takes two, and lines of
+-- fractions: `frac base digits emin emax direction numerator denominator -> answer`. The answer is
 -- `n s m e`, `r` and the refusal's number, or for a comparison `c` and -1, 0 or 1.
 use Prim.Native.Nat.{ℕ, _+_}
-use mathlib.Core.Bool.{Bool, false, _&&_, _||_, Bool·beq}
+use mathlib.Core.Bool.{Bool, false, _&&_, _||_, Bool·beq, cond}
 use mathlib.Core.List.{List}
 use lib.Dec.{eqb, leb}
 use lib.IntN.{ℤ, pos, negsuc}
@@ -16,7 +17,7 @@ use Rattle.number.specs.Signs.{negated, unsigned}
 use Rattle.number.specs.Order.{compared}
 use Rattle.units.specs.Neighbours.{predecessorOf, successorOf}
 use Rattle.units.specs.Places.{firstPlace}
-use Rattle.prepared_arithmetic.specs.Operations.{summed, subtracted, multiplied, divided}
+use Rattle.prepared_arithmetic.specs.Operations.{summed, subtracted, multiplied, divided, fractioned}
 use Rattle.vector_words.specs.declared.Operation.{Operation}
 use Rattle.vector_words.specs.declared.Operation.the-variants.{Sum, Difference, Product, Quotient}
 use Rattle.vector_words.specs.declared.UnaryOperation.{UnaryOperation}
@@ -25,7 +26,7 @@ use Rattle.vector_words.specs.declared.Call.{Call}
 use Rattle.vector_words.specs.declared.Call.the-variants.{Arithmetic, Comparison, Unary, Unknown}
 use Rattle.vector_words.specs.Words.{lastWord, isWord}
 use Rattle.vector_words.specs.Numerals.{isValue, naturalAt, integerAt}
-use Rattle.vector_words.specs.Names.{arrow, numberMark, refusalMark, orderMark, lessText, equalText, greaterText}
+use Rattle.vector_words.specs.Names.{arrow, fracName, numberMark, refusalMark, orderMark, lessText, equalText, greaterText}
 use Rattle.vector_words.specs.Calls.{callOf}
 use Rattle.decimal_vectors.specs.declared.Operand.{Operand}
 use Rattle.decimal_vectors.specs.declared.Description.{Description}
@@ -149,6 +150,21 @@ outcomeAt line =
 unfoldable pub agreesFrom : List ℕ → ℕ → Bool
 agreesFrom line k = isRead line k && isWord line k arrow && hasOutcome line (k + 1) (outcomeAt line)
 
+-- does the call of a line of numbers answer what the line has?
+unfoldable pub numbersAgree : List ℕ → Bool
+numbersAgree line = agreesFrom line (arrowWord (callOf line))
+
+-- ---- fractions: the numerator in word 6, the denominator in word 7
+-- what the fraction of a line comes to
+unfoldable pub fractionAt : List ℕ → Outcome
+fractionAt line =
+    written (fractioned (descriptionAt line .format) (descriptionAt line .direction) (integerAt line 6 .value) (naturalAt line 7 .value))
+
+-- does it answer what the line has?
+unfoldable pub fractionAgrees : List ℕ → Bool
+fractionAgrees line =
+    descriptionAt line .valid && integerAt line 6 .valid && naturalAt line 7 .valid && isWord line 8 arrow && hasOutcome line 9 (fractionAt line)
+
 -- does the call of a line answer what the line has?
 unfoldable pub decimalLineAgrees : List ℕ → Bool
-decimalLineAgrees line = agreesFrom line (arrowWord (callOf line))
+decimalLineAgrees line = cond (isWord line 0 fracName) (fractionAgrees line) (numbersAgree line)

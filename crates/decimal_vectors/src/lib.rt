@@ -1,5 +1,6 @@
-// Lines of numbers: `op base digits emin emax direction s m e -> answer`, with a second `s m e` where the call takes two. The
-// answer is `n s m e`, `r` and the refusal's number, or for a comparison `c` and -1, 0 or 1.
+// Lines of numbers: `op base digits emin emax direction s m e -> answer`, with a second `s m e` where the call takes two, and lines of
+// fractions: `frac base digits emin emax direction numerator denominator -> answer`. The answer is `n s m e`, `r` and the refusal's number, or for a comparison `c` and -1, 0 or 1.
+use arithmetic::fraction::fraction;
 use arithmetic::product::product;
 use arithmetic::quotient::quotient;
 use arithmetic::sum::difference;
@@ -26,7 +27,7 @@ use vector_words::words::is_word;
 use vector_words::words::last_word;
 ghost use mathlib.Core.Path.{_≡_};
 ghost use Prim.Native.Nat.{_≤_};
-ghost use Rattle.decimal_vectors.specs.DecimalLines.{descriptionAt, numberAt, isNumber, isMarked, isOrder, hasOrder, hasOutcome, written, unaryAnswer, arithmeticAnswer, outcomeOf, arrowWord, decimalLineAgrees};
+ghost use Rattle.decimal_vectors.specs.DecimalLines.{descriptionAt, numberAt, isNumber, isMarked, isOrder, hasOrder, hasOutcome, written, unaryAnswer, arithmeticAnswer, outcomeOf, arrowWord, numbersAgree, fractionAgrees, decimalLineAgrees};
 
 // A number of a line; where a word of it is malformed, it counts for nothing.
 pub struct Operand {
@@ -213,9 +214,9 @@ fn arrow_word(call: Call) -> usize
     }
 }
 
-// Does the call of a line answer what the line says?
-pub fn line_agrees(line: &[u8]) -> bool
-    ensures { λ r. ⌜ r ≡ decimalLineAgrees (now (line .entry)) ⌝ }
+// Does the call of a line of numbers answer what the line says?
+fn numbers_agree(line: &[u8]) -> bool
+    ensures { λ r. ⌜ r ≡ numbersAgree (now (line .entry)) ⌝ }
 {
     let description = description_at(line);
     let first = number_at(line, 6);
@@ -228,4 +229,28 @@ pub fn line_agrees(line: &[u8]) -> bool
     let outcome = outcome_of(call, format, description.direction, a, b);
     let read = description.valid & first.valid & (second.valid | (k == 9));
     read & is_word(line, k, b"->") & outcome_is(line, k + 1, outcome)
+}
+
+// Does the fraction of a line answer what the line says?
+fn fraction_agrees(line: &[u8]) -> bool
+    ensures { λ r. ⌜ r ≡ fractionAgrees (now (line .entry)) ⌝ }
+{
+    let description = description_at(line);
+    let numerator = integer(line, 6);
+    let denominator = natural(line, 7);
+    let format = description.format;
+    let direction = description.direction;
+    let answer = fraction(format, direction, numerator.value, denominator.value);
+    let read = description.valid & numerator.valid & denominator.valid;
+    read & is_word(line, 8, b"->") & outcome_is(line, 9, written(answer))
+}
+
+// Does the call of a line answer what the line says?
+pub fn line_agrees(line: &[u8]) -> bool
+    ensures { λ r. ⌜ r ≡ decimalLineAgrees (now (line .entry)) ⌝ }
+{
+    if is_word(line, 0, b"frac") {
+        return fraction_agrees(line);
+    }
+    numbers_agree(line)
 }

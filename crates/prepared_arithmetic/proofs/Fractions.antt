@@ -18,7 +18,7 @@ pow-three : (β i j k : ℕ) → β ^ i * β ^ j * β ^ k ≡ β ^ (i + j + k)
 pow-three β i j k = sym (pow-add β (i + j) k ∙ rw (pow-add β i j))
 
 -- a number's exponent is Emin and its place
-at-place : {f : Format} {x : Number} → Member f x → above (x .exponent) + below (f .emin) ≡ above (f .emin) + below (x .exponent) + placeOf f x
+pub at-place : {f : Format} {x : Number} → Member f x → above (x .exponent) + below (f .emin) ≡ above (f .emin) + below (x .exponent) + placeOf f x
 at-place {f} {x} i =
     let z : ℤ = x .exponent -ℤ f .emin in
     omega (arith, size-parts z, diff-parts (x .exponent) (f .emin), apart z, i .exponent-low)

@@ -1,6 +1,6 @@
 -- From a prepared format to the wide format and back: a number of the format is an operand there, and a result that comes back
 -- is the exact value, rounded and delivered.
-use Prim.Native.Nat.{ℕ, _^_, _*_, _≤_, _<_}
+use Prim.Native.Nat.{ℕ, zero, suc, _^_, _*_, _≤_, _<_}
 use mathlib.Core.Path.{_≡_, refl, sym, ap, _∙_}
 use mathlib.Core.Bool.{Bool, true, not, xor}
 use native.Mathlib.Nat.{mul-pos}
@@ -34,12 +34,13 @@ use Rattle.number.proofs.Values.{member-canonical, member-highest, highest-most
 use Rattle.number.proofs.Negation.{signed-member, negated-value}
 use Rattle.wide.specs.declared.Wide.{Wide}
 use Rattle.wide.specs.Operand.{Operand, sizeOf}
+use Rattle.wide.specs.Delivery as wide
 use Rattle.wide.specs.Sum.{summed}
 use Rattle.wide.specs.Product.{multiplied}
 use Rattle.wide.specs.Quotient.{divided}
-use Rattle.wide.proofs.Results.{Result, summed-result, multiplied-result, divided-result}
+use Rattle.wide.proofs.Results.{Result, delivered-result, summed-result, multiplied-result, divided-result}
 use Rattle.prepared_arithmetic.specs.Operands.{wideOf}
-use Rattle.prepared_arithmetic.specs.Operations.{rounded, roundedZ, roundedSum, roundedProduct, roundedQuotient}
+use Rattle.prepared_arithmetic.specs.Operations.{rounded, roundedZ, roundedSum, roundedProduct, roundedQuotient, roundedFraction}
 
 -- ---- the parts of Emin
 pub parts-above : (z : ℤ) → aboveZero z ≡ above z
@@ -49,6 +50,10 @@ parts-above (negsuc n) = refl
 pub parts-below : (z : ℤ) → belowZero z ≡ below z
 parts-below (pos n) = refl
 parts-below (negsuc n) = refl
+
+pub no-magnitude : (f : Format) (x : Number) → x .significand ≡ 0 → magnitude f x ≡ 0
+unfolding magnitude
+no-magnitude f x h = rw h (omega arith)
 
 module _ {f : Format} (a : Admitted f) where
   pub above-most : aboveZero (f .emin) < 2 ^ 28
@@ -62,6 +67,13 @@ module _ {f : Format} (a : Admitted f) where
   unfolding magnitude
   some-magnitude b h = mul-pos h (pow-pos (a .base-low) (placeOf f b))
 
+  pub no-significand : (b : Number) → magnitude f b ≡ 0 → b .significand ≡ 0
+  no-significand b e = by (b .significand) refl
+    where
+      by : (m : ℕ) → b .significand ≡ m → b .significand ≡ 0
+      by zero h = h
+      by (suc m) h = absurd (omega (arith, some-magnitude b (omega arith)))
+
   pub divisor-positive : (b : Number) → 1 ≤ b .significand → 1 ≤ magnitude f b * f .base ^ aboveZero (f .emin)
   divisor-positive b h = mul-pos (some-magnitude b h) (pow-pos (a .base-low) (aboveZero (f .emin)))
 
@@ -71,13 +83,19 @@ module _ {f : Format} (a : Admitted f) where
   unfolding roundedQuotient
   divisor-some d x y h = rw (ne-eqb (magnitude f y) 0 (λ e. omega (arith, some-magnitude y h)))
 
-pub no-magnitude : (f : Format) (x : Number) → x .significand ≡ 0 → magnitude f x ≡ 0
-unfolding magnitude
-no-magnitude f x h = rw h (omega arith)
-
 pub divisor-none : (f : Format) (d : theory.Direction) (x y : Number) → y .significand ≡ 0 → roundedQuotient f d x y ≡ Refused DivisorZero
 unfolding roundedQuotient
 divisor-none f d x y h = rw (eq-eqb (magnitude f y) 0 (no-magnitude f y h))
+
+-- ---- a denominator, zero or not
+pub denominator-some : (f : Format) (d : theory.Direction) (n : ℤ) {m : ℕ} → 1 ≤ m
+    → roundedFraction f d n m ≡ rounded f d (is-negative n) (natAbs n * f .base ^ belowZero (f .emin)) (m * f .base ^ aboveZero (f .emin))
+unfolding roundedFraction
+denominator-some f d n {m} h = rw (ne-eqb m 0 (λ e. omega arith))
+
+pub denominator-none : (f : Format) (d : theory.Direction) (n : ℤ) {m : ℕ} → m ≡ 0 → roundedFraction f d n m ≡ Refused DivisorZero
+unfolding roundedFraction
+denominator-none f d n {m} h = rw (eq-eqb m 0 h)
 
 -- ---- a number with its sign turned
 module _ {f : Format} (ok : Admitted f) (b : Number) {y : Number} (m : member f b ≡ true) (e : y ≡ withSign b (not (b .negative))) where
@@ -154,3 +172,12 @@ module _ {q : Prepared} (u : Usable q) where
     quotient-delivers h eu ed e =
         let ok = known u .admits in
         rw (divisor-some ok (sense d) a b h) (result-delivers (divisor-positive ok b h) (quotient-result h eu ed e))
+
+  pub fraction-delivers : (d : Direction) (n : ℤ) {m up down k : ℕ} {negative : Bool} {w : Wide} → 1 ≤ m
+      → up ≡ belowZero (q .format .emin) → down ≡ aboveZero (q .format .emin) → negative ≡ is-negative n → k ≡ natAbs n
+      → w ≡ wide.delivered (q .scale .base) (q .scale .digits) d negative (k * q .scale .base ^ up) (m * q .scale .base ^ down)
+      → Delivers (q .format) w (roundedFraction (q .format) (sense d) n m)
+  fraction-delivers d n {m} h eu ed es ek e =
+      let ok = known u .admits in
+      let size : 1 ≤ m * q .format .base ^ aboveZero (q .format .emin) = mul-pos h (pow-pos (ok .base-low) (aboveZero (q .format .emin))) in
+      rw (denominator-some (q .format) (sense d) n h, e, es, ek, eu, ed, scale-is) (result-delivers size (delivered-result (positional ok) d (is-negative n) _ _ size))

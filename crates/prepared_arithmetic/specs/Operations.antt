@@ -1,4 +1,5 @@
--- The four operations: the checks of document 01 in their order, then the exact result in units of β ^ Emin, rounded once.
+-- The four operations and the fraction: the checks of document 01 in their order, then the exact result in units of β ^ Emin, rounded
+-- once.
 use Prim.Native.Nat.{ℕ, _*_, _^_}
 use mathlib.Core.Bool.{Bool, xor, cond}
 use mathlib.Core.List.{[], _∷_}
@@ -43,6 +44,13 @@ roundedQuotient f d a b =
     cond (eqb (magnitude f b) 0) (Refused DivisorZero)
     (rounded f d (xor (a .negative) (b .negative)) (magnitude f a * f .base ^ belowZero (f .emin)) (magnitude f b * f .base ^ aboveZero (f .emin)))
 
+-- ---- of two whole numbers
+-- n / m is n / (m × β ^ Emin) units; refusal 4 where the denominator m is zero
+unfoldable pub roundedFraction : Format → Direction → (n : ℤ) (m : ℕ) → Answer
+roundedFraction f d n m =
+    cond (eqb m 0) (Refused DivisorZero)
+    (rounded f d (is-negative n) (natAbs n * f .base ^ belowZero (f .emin)) (m * f .base ^ aboveZero (f .emin)))
+
 -- ---- the public calls: refusals 1, 2 and 3 come first
 -- the answer of sum
 unfoldable pub summed : Format → (d : ℕ) (a b : Number) → Answer
@@ -59,3 +67,7 @@ multiplied f d a b = after (entry f (d ∷ []) (a ∷ b ∷ [])) Refused (rounde
 -- the answer of quotient
 unfoldable pub divided : Format → (d : ℕ) (a b : Number) → Answer
 divided f d a b = after (entry f (d ∷ []) (a ∷ b ∷ [])) Refused (roundedQuotient f (direction d) a b)
+
+-- the answer of fraction
+unfoldable pub fractioned : Format → (d : ℕ) (numerator : ℤ) (denominator : ℕ) → Answer
+fractioned f d numerator denominator = after (entry f (d ∷ []) []) Refused (roundedFraction f (direction d) numerator denominator)

@@ -48,6 +48,10 @@ succName = 115 ∷ 117 ∷ 99 ∷ 99 ∷ []
 abbrev pub ufpName : List ℕ
 ufpName = 117 ∷ 102 ∷ 112 ∷ []
 
+-- `frac`
+abbrev pub fracName : List ℕ
+fracName = 102 ∷ 114 ∷ 97 ∷ 99 ∷ []
+
 -- ---- the kinds of an answer
 -- `n`
 abbrev pub numberMark : List ℕ

@@ -1,1 +1,2 @@
--- The definitions stand in `wide`.
+-- What a long division has found. The other definitions stand in `wide`.
+pub mod Division

@@ -1,4 +1,6 @@
-// The quotient: both significands brought to all their digits, and one division.
+// The quotient: both significands brought to all their digits, and one division. Fractions of whole numbers: digit by digit.
+pub mod long_division;
+
 use format::Direction;
 use format::Scale;
 use format::Significand;

@@ -39,10 +39,10 @@ entrance : (c : tie.After-prepared) → let s = c .before .before .before .befor
 entrance c = sym (c .before .before .enter-operation .ensures) ∙ c .prepared .given .1
 
 direction-of-requires-2 : tie.Need-direction-of-requires-2
-direction-of-requires-2 c κs = operation _ _ _ _ (entrance (c .before)) .directed
+direction-of-requires-2 c κs = operation _ _ _ _ (entrance (c .before)) .entrance .directed
 
 multiply-requires-2 : tie.Need-multiply-requires-2
-multiply-requires-2 c κs = let o = operation _ _ _ _ (entrance (c .before .before)) in (o .usable, o .first, o .second)
+multiply-requires-2 c κs = let o = operation _ _ _ _ (entrance (c .before .before)) in (o .entrance .usable, o .first, o .second)
 
 returns-2 : tie.Need-returns-2
 unfolding multiplied
@@ -56,7 +56,7 @@ returns-3 c =
     let d = c .before in
     let p = d .before .before in
     let s = p .before .before .before .before .before .args in
-    answered _ _ _ _ (entrance p) (λ (f : Format) (t : theory.Direction). roundedProduct f t (s .a) (s .b)) (d .direction-of2 .ensures) (c .multiply2 .ensures)
+    answered _ _ _ (entrance p) (λ (f : Format) (t : theory.Direction). roundedProduct f t (s .a) (s .b)) (d .direction-of2 .ensures) (c .multiply2 .ensures)
 
 pub product-spec : {M : Type 1} → statement M
 product-spec =

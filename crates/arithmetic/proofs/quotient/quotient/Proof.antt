@@ -39,10 +39,10 @@ entrance : (c : tie.After-prepared) → let s = c .before .before .before .befor
 entrance c = sym (c .before .before .enter-operation .ensures) ∙ c .prepared .given .1
 
 direction-of-requires-2 : tie.Need-direction-of-requires-2
-direction-of-requires-2 c κs = operation _ _ _ _ (entrance (c .before)) .directed
+direction-of-requires-2 c κs = operation _ _ _ _ (entrance (c .before)) .entrance .directed
 
 divide-requires-2 : tie.Need-divide-requires-2
-divide-requires-2 c κs = let o = operation _ _ _ _ (entrance (c .before .before)) in (o .usable, o .first, o .second)
+divide-requires-2 c κs = let o = operation _ _ _ _ (entrance (c .before .before)) in (o .entrance .usable, o .first, o .second)
 
 returns-2 : tie.Need-returns-2
 unfolding divided
@@ -56,7 +56,7 @@ returns-3 c =
     let d = c .before in
     let p = d .before .before in
     let s = p .before .before .before .before .before .args in
-    answered _ _ _ _ (entrance p) (λ (f : Format) (t : theory.Direction). roundedQuotient f t (s .a) (s .b)) (d .direction-of2 .ensures) (c .divide2 .ensures)
+    answered _ _ _ (entrance p) (λ (f : Format) (t : theory.Direction). roundedQuotient f t (s .a) (s .b)) (d .direction-of2 .ensures) (c .divide2 .ensures)
 
 pub quotient-spec : {M : Type 1} → statement M
 quotient-spec =

@@ -18,10 +18,10 @@ entrance : (c : tie.After-prepared) → let s = c .before .before .before .args 
 entrance c = sym (c .before .before .enter-operation .ensures) ∙ c .prepared .given .1
 
 direction-of-requires : tie.Need-direction-of-requires
-direction-of-requires c κs = operation _ _ _ _ (entrance (c .before)) .directed
+direction-of-requires c κs = operation _ _ _ _ (entrance (c .before)) .entrance .directed
 
 subtract-requires : tie.Need-subtract-requires
-subtract-requires c κs = let o = operation _ _ _ _ (entrance (c .before .before)) in (o .usable, o .first, o .second)
+subtract-requires c κs = let o = operation _ _ _ _ (entrance (c .before .before)) in (o .entrance .usable, o .first, o .second)
 
 returns : tie.Need-returns
 unfolding subtracted
@@ -35,7 +35,7 @@ returns-2 c =
     let d = c .before in
     let p = d .before .before in
     let s = p .before .before .before .args in
-    answered _ _ _ _ (entrance p) (λ (f : Format) (t : theory.Direction). roundedDifference f t (s .a) (s .b)) (d .direction-of .ensures) (c .subtract .ensures)
+    answered _ _ _ (entrance p) (λ (f : Format) (t : theory.Direction). roundedDifference f t (s .a) (s .b)) (d .direction-of .ensures) (c .subtract .ensures)
 
 pub difference-spec : {M : Type 1} → statement M
 difference-spec =

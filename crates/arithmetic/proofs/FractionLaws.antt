@@ -1,0 +1,343 @@
+-- What the answer of the fraction says: n over m is ± N / D units, rounded; which refusal comes where; equal fractions are answered
+-- alike, and as the quotient of two numbers; a whole number over 1 comes out unchanged where it is a number of the format.
+use Prim.Native.Nat.{ℕ, zero, suc, _+_, _^_, _*_, _-_, _≤_, _<_}
+use mathlib.Core.Path.{_≡_, refl, sym, ap, _∙_}
+use mathlib.Core.Bool.{Bool, true, false, xor}
+use mathlib.Core.List.{[], _∷_}
+use native.Mathlib.Nat.{mul-pos, zero-mul, mul-le-mul, mul-lt-mul-of-pos-right, eq-of-mul-eq-mul-right, pow-zero}
+use native.Mathlib.Omega.{arith}
+use lib.IntN.{ℤ, pos, negsuc, natAbs, _*ℤ_}
+use borrow.Author.Tests.{le-leb, lt-leb}
+use Rattle.theory.specs.Lists.{all}
+use Rattle.theory.specs.Tests.{_and_}
+use Rattle.theory.specs.Signed.{signed, is-negative}
+use Rattle.theory.specs.Round as theory
+use Rattle.theory.specs.Wide.{Wide}
+use Rattle.theory.proofs.Powers.{pow-add, pow-pos, pow-mono, pow-half}
+use Rattle.theory.proofs.Wide.{wide-pow}
+use Rattle.theory.proofs.Round.{round-exact}
+use Rattle.theory.proofs.Monotone.{Same, round-same}
+use Rattle.theory.proofs.Integers.{below, parts-eq, scale-above, scale-below, size-scale, size-signed, own-sign, scale-signed}
+use Rattle.theory.proofs.Tests.{and-made, unless-passed, unless-failed}
+use Rattle.format.specs.declared.Format.{Format}
+use Rattle.format.specs.declared.Refusal.{Refusal}
+use Rattle.format.specs.declared.Refusal.the-variants.{FormatNotAdmitted, NoSuchDirection, DivisorZero, TooLarge}
+use Rattle.format.specs.declared.Verdict.{Verdict}
+use Rattle.format.specs.declared.Verdict.the-variants as verdict
+use Rattle.format.specs.Formats.{admitted, highestPlace}
+use Rattle.format.specs.Directions.{isDirection, direction}
+use Rattle.format.proofs.Formats.{Admitted, admits, admitted-made, positional}
+use Rattle.number.specs.declared.Number.{Number}
+use Rattle.number.specs.declared.Answer.{Answer}
+use Rattle.number.specs.declared.Answer.the-variants.{Value, Refused}
+use Rattle.number.specs.Exponents.{aboveZero, belowZero}
+use Rattle.number.specs.Numbers.{member, placeOf, magnitude, value, greatest, number, delivered}
+use Rattle.number.specs.Entry.{entry, after}
+use Rattle.number.proofs.Entries.{entry-made, after-passed}
+use Rattle.number.proofs.Membership.{Member, members, member-made}
+use Rattle.number.proofs.Values.{number-magnitude, number-value, number-member}
+use Rattle.prepared_arithmetic.specs.Operations.{rounded, roundedQuotient, roundedFraction, divided, fractioned}
+use Rattle.prepared_arithmetic.proofs.Prepared.{parts-above, parts-below, no-magnitude, no-significand, divisor-positive, divisor-some, denominator-some, denominator-none}
+use Rattle.prepared_arithmetic.proofs.Outcome.{Outcome, rounded-outcome}
+use Rattle.prepared_arithmetic.proofs.Fractions.{at-place}
+use Rattle.arithmetic.proofs.Algebra.{xor-plus, reach}
+
+-- ---- N and D
+abbrev pub over : Format → ℤ → ℕ
+over f n = natAbs n * f .base ^ belowZero (f .emin)
+
+abbrev pub under : Format → ℕ → ℕ
+under f m = m * f .base ^ aboveZero (f .emin)
+
+-- ± N / D units make n / m: ± N × m × β ^ Emin = n × D, with the power on the side where its exponent is not negative
+pub fraction-times-denominator : (f : Format) (n : ℤ) (m : ℕ)
+    → signed (is-negative n) (over f n) *ℤ pos m *ℤ pos (f .base ^ aboveZero (f .emin)) ≡ n *ℤ pos (f .base ^ belowZero (f .emin)) *ℤ pos (under f m)
+fraction-times-denominator f n m =
+    let s : Bool = is-negative n in
+    let u : ℕ = f .base ^ aboveZero (f .emin) in
+    let w : ℕ = f .base ^ belowZero (f .emin) in
+    let left : signed s (over f n) *ℤ pos m *ℤ pos u ≡ signed s (over f n * m * u) = rw (scale-signed s (over f n) m) (scale-signed s (over f n * m) u) in
+    let right : signed s (natAbs n) *ℤ pos w *ℤ pos (under f m) ≡ signed s (over f n * under f m) =
+    rw (scale-signed s (natAbs n) w) (scale-signed s (natAbs n * w) (under f m)) in
+    left ∙ ap (signed s) (omega arith) ∙ sym right ∙ ap (λ (z : ℤ). z *ℤ pos w *ℤ pos (under f m)) (own-sign n)
+
+under-some : {f : Format} → Admitted f → {m : ℕ} → 1 ≤ m → 1 ≤ under f m
+under-some {f} ok h = mul-pos h (pow-pos (ok .base-low) (aboveZero (f .emin)))
+
+-- ---- which answer comes where: 1, 2, 4 (for 0 over 0 too), then the rounded fraction, or 5 where it is too large
+pub data Fractioned (f : Format) (d : ℕ) (n : ℤ) (m : ℕ) : Answer → Type 0 where
+  not-admitted : admitted f ≡ false → Fractioned f d n m (Refused FormatNotAdmitted)
+  no-direction : Admitted f → isDirection d ≡ false → Fractioned f d n m (Refused NoSuchDirection)
+  zero-denominator : Admitted f → isDirection d ≡ true → m ≡ 0 → Fractioned f d n m (Refused DivisorZero)
+  rounds : {r : Answer} → Admitted f → isDirection d ≡ true → 1 ≤ m → Outcome f (direction d) (signed (is-negative n) (over f n)) (under f m) r → Fractioned f d n m r
+
+module _ (f : Format) (d : ℕ) where
+  first-fails : admitted f ≡ false → entry f (d ∷ []) [] ≡ verdict.Refused FormatNotAdmitted
+  unfolding entry
+  first-fails h = unless-failed _ _ h
+
+  second-fails : admitted f ≡ true → isDirection d ≡ false → entry f (d ∷ []) [] ≡ verdict.Refused NoSuchDirection
+  unfolding entry all _and_
+  second-fails h k = unless-passed _ _ h ∙ unless-failed _ _ (ap (λ (t : Bool). t and true) k)
+
+  passes : admitted f ≡ true → isDirection d ≡ true → entry f (d ∷ []) [] ≡ verdict.Passed
+  unfolding all
+  passes h k = entry-made f (d ∷ []) [] h (and-made k refl) refl
+
+  module _ (n : ℤ) where
+    goes-on : Admitted f → isDirection d ≡ true → (m : ℕ) → fractioned f d n m ≡ roundedFraction f (direction d) n m
+    unfolding fractioned
+    goes-on ok k m = after-passed _ _ (passes (admitted-made ok) k)
+
+    refused : {why : Refusal} → entry f (d ∷ []) [] ≡ verdict.Refused why → (m : ℕ) → Refused why ≡ fractioned f d n m
+    unfolding fractioned after
+    refused e m = rw (e, after)
+
+    pub fractioned-is : (m : ℕ) → Fractioned f d n m (fractioned f d n m)
+    fractioned-is m = by (admitted f) (isDirection d) m refl refl
+      where
+        by : (s t : Bool) (m : ℕ) → admitted f ≡ s → isDirection d ≡ t → Fractioned f d n m (fractioned f d n m)
+        by false t m h k = rw (← refused (first-fails h) m) (not-admitted h)
+        by true false m h k = rw (← refused (second-fails h k) m) (no-direction (admits f h) k)
+        by true true zero h k = rw (goes-on (admits f h) k 0, denominator-none f (direction d) n refl) (zero-denominator (admits f h) k refl)
+        by true true (suc m) h k =
+            let ok = admits f h in
+            let some : 1 ≤ suc m = omega arith in
+            rw (goes-on ok k (suc m), denominator-some f (direction d) n some)
+            (rounds ok k some (rounded-outcome ok (direction d) (is-negative n) (over f n) (under-some ok some)))
+
+-- ---- equal fractions are answered alike
+same-sign : (n k : ℤ) (m j : ℕ) → 1 ≤ m → 1 ≤ j → n *ℤ pos j ≡ k *ℤ pos m → is-negative n ≡ is-negative k
+same-sign (pos a) (pos b) m j hm hj e = refl
+same-sign (pos a) (negsuc b) m j hm hj e = absurd (omega (arith, ap below e, scale-below (pos a) j, scale-below (negsuc b) m, mul-pos {m = suc b} {n = m} (omega arith) hm))
+same-sign (negsuc a) (pos b) m j hm hj e = absurd (omega (arith, ap below e, scale-below (negsuc a) j, scale-below (pos b) m, mul-pos {m = suc a} {n = j} (omega arith) hj))
+same-sign (negsuc a) (negsuc b) m j hm hj e = refl
+
+rounded-same : {f : Format} → Admitted f → (d : theory.Direction) {s t : Bool} {N D N′ D′ : ℕ} → s ≡ t → Same N D N′ D′ → rounded f d s N D ≡ rounded f d t N′ D′
+unfolding rounded
+rounded-same {f} ok d {t = t} e h = rw e (ap (delivered f t) (round-same (positional ok) d t h))
+
+module _ (f : Format) (d : ℕ) where
+  -- what holds after passed checks holds of the answers
+  checked-same : {x y : Answer} → (Admitted f → x ≡ y) → after (entry f (d ∷ []) []) Refused x ≡ after (entry f (d ∷ []) []) Refused y
+  unfolding after
+  checked-same {x} {y} h = by (admitted f) refl
+    where
+      by : (t : Bool) → admitted f ≡ t → after (entry f (d ∷ []) []) Refused x ≡ after (entry f (d ∷ []) []) Refused y
+      by true a = rw (h (admits f a))
+      by false a = rw (first-fails f d a, after)
+
+  pub fractioned-same : (n k : ℤ) {m j : ℕ} → 1 ≤ m → 1 ≤ j → n *ℤ pos j ≡ k *ℤ pos m → fractioned f d n m ≡ fractioned f d k j
+  unfolding fractioned
+  fractioned-same n k {m} {j} hm hj e =
+      checked-same
+      (λ ok.
+      let sizes : natAbs n * j ≡ natAbs k * m = sym (size-scale n j) ∙ ap natAbs e ∙ size-scale k m in
+      let cross : Same (over f n) (under f m) (over f k) (under f j) =
+      record {
+        divisor = under-some ok hm;
+        divisor′ = under-some ok hj;
+        cross = omega (arith, ap (λ (x : ℕ). x * (f .base ^ belowZero (f .emin) * f .base ^ aboveZero (f .emin))) sizes);
+      } in
+      denominator-some f (direction d) n hm ∙ rounded-same ok (direction d) (same-sign n k m j hm hj e) cross ∙ sym (denominator-some f (direction d) k hj))
+
+  -- both parts multiplied
+  pub fractioned-multiplied : (n : ℤ) (m c : ℕ) → 1 ≤ c → fractioned f d (n *ℤ pos c) (m * c) ≡ fractioned f d n m
+  unfolding fractioned
+  fractioned-multiplied n zero c h =
+      checked-same (λ ok. denominator-none f (direction d) (n *ℤ pos c) (zero-mul c) ∙ sym (denominator-none f (direction d) n refl))
+  fractioned-multiplied n (suc m) c h =
+      fractioned-same (n *ℤ pos c) n (mul-pos {m = suc m} {n = c} (omega arith) h) (omega arith)
+      (parts-eq (n *ℤ pos c *ℤ pos (suc m)) (n *ℤ pos (suc m * c))
+      (omega (
+        arith,
+        scale-above (n *ℤ pos c) (suc m),
+        scale-below (n *ℤ pos c) (suc m),
+        ap (λ (x : ℕ). x * suc m) (scale-above n c),
+        ap (λ (x : ℕ). x * suc m) (scale-below n c),
+        scale-above n (suc m * c),
+        scale-below n (suc m * c),
+      )))
+
+-- ---- n over m is the quotient of n and m, where both are numbers of the format
+-- x is the whole number z: x units are z / β ^ Emin
+pub record Whole (f : Format) (x : Number) (z : ℤ) : Type 0 where
+  pub member : member f x ≡ true
+  pub value : value f x *ℤ pos (f .base ^ aboveZero (f .emin)) ≡ z *ℤ pos (f .base ^ belowZero (f .emin))
+
+module _ {f : Format} (ok : Admitted f) where
+  unit-above : 1 ≤ f .base ^ aboveZero (f .emin)
+  unit-above = pow-pos (ok .base-low) (aboveZero (f .emin))
+
+  unit-below : 1 ≤ f .base ^ belowZero (f .emin)
+  unit-below = pow-pos (ok .base-low) (belowZero (f .emin))
+
+  whole-size : {x : Number} {z : ℤ} → Whole f x z → magnitude f x * f .base ^ aboveZero (f .emin) ≡ over f z
+  unfolding value
+  whole-size {x} {z} w =
+      ap (λ (n : ℕ). n * f .base ^ aboveZero (f .emin)) (sym (size-signed (x .negative) (magnitude f x)))
+      ∙ sym (size-scale (value f x) (f .base ^ aboveZero (f .emin))) ∙ ap natAbs (w .value) ∙ size-scale z (f .base ^ belowZero (f .emin))
+
+  -- a number has the sign of its value
+  signed-sign : (s : Bool) (n : ℕ) → (n ≡ 0 → s ≡ false) → is-negative (signed s n) ≡ s
+  signed-sign true zero h = sym (h refl)
+  signed-sign true (suc n) h = refl
+  signed-sign false n h = refl
+
+  whole-sign : {x : Number} {z : ℤ} → Whole f x z → is-negative z ≡ x .negative
+  unfolding value
+  whole-sign {x} {z} w =
+      let zero-plus : magnitude f x ≡ 0 → x .negative ≡ false = λ e. members x ok (w .member) .zero-sign (no-significand ok x e) in
+      sym (same-sign (value f x) z (f .base ^ belowZero (f .emin)) (f .base ^ aboveZero (f .emin)) unit-below unit-above (w .value))
+      ∙ signed-sign (x .negative) (magnitude f x) zero-plus
+
+  whole-some : {x : Number} {m : ℕ} → Whole f x (pos m) → 1 ≤ m → 1 ≤ x .significand
+  whole-some {x} {m} w h = by (x .significand) refl
+    where
+      by : (n : ℕ) → x .significand ≡ n → 1 ≤ n
+      by zero e =
+          absurd (omega (arith, ap (λ (n : ℕ). n * f .base ^ aboveZero (f .emin)) (no-magnitude f x e), whole-size w, mul-pos h unit-below))
+      by (suc n) e = omega arith
+
+module _ (f : Format) (d : ℕ) (a b : Number) where
+  checked-whole : member f a ≡ true → member f b ≡ true → entry f (d ∷ []) (a ∷ b ∷ []) ≡ entry f (d ∷ []) []
+  unfolding entry all _and_
+  checked-whole h k = rw (h, k, _and_)
+
+  pub fractioned-quotient : {n : ℤ} {m : ℕ} → Whole f a n → Whole f b (pos m) → 1 ≤ m → fractioned f d n m ≡ divided f d a b
+  unfolding fractioned divided
+  fractioned-quotient {n} {m} u v h =
+      checked-same f d
+      (λ ok.
+      let size-a = whole-size ok u in
+      let size-b = whole-size ok v in
+      let some = whole-some ok v h in
+      let signs : is-negative n ≡ xor (a .negative) (b .negative) = rw (← whole-sign ok v) (whole-sign ok u ∙ sym (xor-plus (a .negative) false refl)) in
+      let cross : Same (over f n) (under f m) (magnitude f a * f .base ^ belowZero (f .emin)) (magnitude f b * f .base ^ aboveZero (f .emin)) =
+      record {
+        divisor = under-some ok h;
+        divisor′ = divisor-positive ok b some;
+        cross = omega (
+          arith,
+          ap (λ (x : ℕ). over f n * x) size-b,
+          ap (λ (x : ℕ). x * (m * f .base ^ belowZero (f .emin))) size-a,
+        );
+      } in
+      denominator-some f (direction d) n h ∙ rounded-same ok (direction d) signs cross ∙ sym (divisor-some ok (direction d) a b some))
+      ∙ ap (λ (e : Verdict). after e Refused (roundedQuotient f (direction d) a b)) (sym (checked-whole (u .member) (v .member)))
+
+-- ---- a whole number over 1, in a format with Emin ≤ 0
+-- r is the number n, by its value (n / β ^ Emin units) and by its record (the sign of n, and m × β ^ e = |n|)
+pub record Unchanged (f : Format) (n : ℤ) (r : Answer) : Type 0 where
+  pub number : Number
+  pub is : r ≡ Value number
+  pub member : member f number ≡ true
+  pub value : value f number ≡ n *ℤ pos (f .base ^ belowZero (f .emin))
+  pub sign : number .negative ≡ is-negative n
+  pub size : number .significand * f .base ^ aboveZero (number .exponent) ≡ natAbs n * f .base ^ belowZero (number .exponent)
+
+module _ {f : Format} (ok : Admitted f) (low : aboveZero (f .emin) ≡ 0) (d : ℕ) (k : isDirection d ≡ true) where
+  under-one : under f 1 ≡ 1
+  under-one = rw (low, pow-zero) (omega arith)
+
+  times-one : (z : ℤ) → z *ℤ pos 1 ≡ z
+  times-one z = parts-eq (z *ℤ pos 1) z (omega (arith, scale-above z 1, scale-below z 1))
+
+  -- a number of |n| / β ^ Emin units is |n|, without the unit
+  plain-size : {x : Number} (n : ℤ) → Member f x → magnitude f x ≡ over f n
+      → x .significand * f .base ^ aboveZero (x .exponent) ≡ natAbs n * f .base ^ belowZero (x .exponent)
+  unfolding magnitude
+  plain-size {x} n i e =
+      let B : ℕ = f .base in
+      let unit : ℕ = B ^ belowZero (f .emin) in
+      let exponents : aboveZero (x .exponent) + belowZero (f .emin) ≡ belowZero (x .exponent) + placeOf f x =
+      omega (arith, at-place i, parts-above (f .emin), parts-below (f .emin), parts-above (x .exponent), parts-below (x .exponent)) in
+      let powers : B ^ aboveZero (x .exponent) * unit ≡ B ^ belowZero (x .exponent) * B ^ placeOf f x =
+      sym (pow-add B (aboveZero (x .exponent)) (belowZero (f .emin))) ∙ ap (λ (h : ℕ). B ^ h) exponents ∙ pow-add B (belowZero (x .exponent)) (placeOf f x) in
+      eq-of-mul-eq-mul-right unit (unit-below ok) _ _
+      (omega (arith, ap (λ (v : ℕ). x .significand * v) powers, ap (λ (v : ℕ). v * B ^ belowZero (x .exponent)) e))
+
+  -- a magnitude of the wide format is not rounded
+  whole-delivered : (n : ℤ) → Wide (f .base) (f .digits) (over f n) → fractioned f d n 1 ≡ delivered f (is-negative n) (over f n)
+  unfolding rounded
+  whole-delivered n w =
+      goes-on f d n ok k 1 ∙ denominator-some f (direction d) n (omega arith)
+      ∙ ap (delivered f (is-negative n))
+      (round-exact (positional ok) (over f n) (under-some ok (omega arith)) (direction d) (is-negative n) (over f n) w (rw under-one (omega arith)))
+
+  too-large : (n : ℤ) → Wide (f .base) (f .digits) (over f n) → greatest f < over f n → fractioned f d n 1 ≡ Refused TooLarge
+  unfolding delivered
+  too-large n w l = whole-delivered n w ∙ unless-failed _ _ (lt-leb _ _ l)
+
+  pub unchanged : (n : ℤ) → Wide (f .base) (f .digits) (over f n) → over f n ≤ greatest f → Unchanged f n (fractioned f d n 1)
+  unfolding delivered
+  unchanged n w l =
+      let x : Number = number f (is-negative n) (over f n) in
+      let unit : ℕ = f .base ^ belowZero (f .emin) in
+      let i : Member f x = number-member ok w (is-negative n) l in
+      let units : value f x ≡ n *ℤ pos unit =
+      number-value ok w (is-negative n) ∙ sym (scale-signed (is-negative n) (natAbs n) unit) ∙ ap (λ (z : ℤ). z *ℤ pos unit) (own-sign n) in
+      let whole : Whole f x n = record { member = member-made x ok i; value = rw (low, pow-zero) (times-one (value f x) ∙ units) } in
+      record {
+        number = x;
+        is = whole-delivered n w ∙ unless-passed _ _ (le-leb _ _ l);
+        member = member-made x ok i;
+        value = units;
+        sign = sym (whole-sign ok whole);
+        size = plain-size n i (number-magnitude ok w (is-negative n));
+      }
+
+-- ---- binary with 31 digits, Emin ≤ 0 ≤ Emax
+pub record Binary31 (f : Format) : Type 0 where
+  pub admits : Admitted f
+  pub base : f .base ≡ 2
+  pub digits : f .digits ≡ 31
+  pub low : aboveZero (f .emin) ≡ 0
+  pub high : belowZero (f .emax) ≡ 0
+
+-- -2 ^ 31, the least of the signed numbers of 32 bits
+abbrev pub least : ℤ
+least = negsuc (2 ^ 31 - 1)
+
+module _ {f : Format} (b : Binary31 f) where
+  -- the highest place is -Emin + Emax
+  highest : highestPlace f ≡ aboveZero (f .emax) + belowZero (f .emin)
+  highest = omega (arith, reach (b .admits) (b .low), b .high)
+
+  over-is : (n : ℤ) → over f n ≡ natAbs n * 2 ^ belowZero (f .emin)
+  over-is n = rw (b .base)
+
+  greatest-is : greatest f ≡ (2 ^ 31 - 1) * 2 ^ highestPlace f
+  unfolding greatest
+  greatest-is = rw (b .base, b .digits)
+
+  -- every numerator but -2 ^ 31
+  small-wide : (n : ℤ) → natAbs n < 2 ^ 31 → Wide (f .base) (f .digits) (over f n)
+  small-wide n l = record { significand = natAbs n; exponent = belowZero (f .emin); small = rw (b .base, b .digits) l; is = refl }
+
+  small-within : (n : ℤ) → natAbs n < 2 ^ 31 → over f n ≤ greatest f
+  small-within n l =
+      rw (over-is n, greatest-is)
+      (mul-le-mul (omega arith) (pow-mono {β = 2} (omega arith) {i = belowZero (f .emin)} {j = highestPlace f} (omega (arith, highest))))
+
+  -- and -2 ^ 31 itself
+  least-wide : Wide (f .base) (f .digits) (over f least)
+  least-wide =
+      let power : 2 ^ (31 + belowZero (f .emin)) ≡ 2 ^ 31 * 2 ^ belowZero (f .emin) = pow-add 2 31 (belowZero (f .emin)) in
+      rw (over-is least, b .base) (rw power at (wide-pow {β = 2} (record { base = omega arith; digits = b .admits .digits-low }) (31 + belowZero (f .emin))))
+
+  module _ (d : ℕ) (k : isDirection d ≡ true) where
+    pub numerator-unchanged : (n : ℤ) → natAbs n < 2 ^ 31 → Unchanged f n (fractioned f d n 1)
+    numerator-unchanged n l = unchanged (b .admits) (b .low) d k n (small-wide n l) (small-within n l)
+
+    pub least-too-large : aboveZero (f .emax) ≡ 0 → fractioned f d least 1 ≡ Refused TooLarge
+    least-too-large e =
+        let same : highestPlace f ≡ belowZero (f .emin) = omega (arith, highest) in
+        too-large (b .admits) (b .low) d k least least-wide
+        (rw (over-is least, greatest-is, same) (mul-lt-mul-of-pos-right {k = 2 ^ belowZero (f .emin)} (omega arith) (pow-pos {β = 2} (omega arith) (belowZero (f .emin)))))
+
+    pub least-unchanged : 1 ≤ aboveZero (f .emax) → Unchanged f least (fractioned f d least 1)
+    least-unchanged h =
+        let twice : 2 * 2 ^ belowZero (f .emin) ≤ 2 ^ highestPlace f =
+        pow-half {β = 2} (omega arith) {i = belowZero (f .emin)} {j = highestPlace f} (omega (arith, highest)) in
+        unchanged (b .admits) (b .low) d k least least-wide (rw (over-is least, greatest-is) (omega (arith, twice)))
