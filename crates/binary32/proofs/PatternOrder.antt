@@ -82,7 +82,7 @@ no-magnitude = refl
 
 -- ---- values
 -- the magnitudes m′ and n′ are in the order of m and n
-record Ordered (m n m′ n′ : ℕ) : Type 0 where
+pub record Ordered (m n m′ n′ : ℕ) : Type 0 where
   less : m < n → m′ < n′
   most : m ≤ n → m′ ≤ n′
   more : n < m → n′ < m′
@@ -106,14 +106,14 @@ module _ {m n m′ n′ : ℕ} (o : Ordered m n m′ n′) where
   signed-upto true false h = omega (arith, minus m′, o .none (omega (arith, minus m)))
   signed-upto true true h = omega (arith, minus m′, minus n′, o .most (omega (arith, minus m, minus n)))
 
-  signed-order : (s t : Bool) → ltZ (signed s m′) (signed t n′) ≡ ltZ (signed s m) (signed t n)
+  pub signed-order : (s t : Bool) → ltZ (signed s m′) (signed t n′) ≡ ltZ (signed s m) (signed t n)
   signed-order s t = by (ltZ (signed s m) (signed t n)) refl
     where
       by : (c : Bool) → ltZ (signed s m) (signed t n) ≡ c → ltZ (signed s m′) (signed t n′) ≡ c
       by true e = make-lt (signed s m′) (signed t n′) (signed-under s t (lt-true (signed s m) (signed t n) e))
       by false e = make-ge (signed s m′) (signed t n′) (signed-upto s t (lt-false (signed s m) (signed t n) e))
 
-magnitudes-ordered : (a b : ℕ) → Ordered (a % 2 ^ 31) (b % 2 ^ 31) (magnitudeRead a) (magnitudeRead b)
+pub magnitudes-ordered : (a b : ℕ) → Ordered (a % 2 ^ 31) (b % 2 ^ 31) (magnitudeRead a) (magnitudeRead b)
 magnitudes-ordered a b =
     record {
       less = magnitude-less a b;

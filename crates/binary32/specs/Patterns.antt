@@ -1,9 +1,11 @@
 -- binary32 patterns: what a pattern stands for, as an exact value in units of 2 ^ -149, and how a number is written.
 use Prim.Native.Nat.{ℕ, _+_, _*_, _-_, _/_, _%_, _^_}
 use mathlib.Core.Bool.{Bool, not, cond}
-use mathlib.Core.List.{[], _∷_}
+use mathlib.Core.List.{List, [], _∷_, map}
 use lib.Dec.{eqb, leb}
+use lib.IntN.{ℤ}
 use Rattle.theory.specs.Tests.{unless}
+use Rattle.theory.specs.Signed.{signed}
 use Rattle.format.specs.declared.Refusal.the-variants.{NotFinite}
 use Rattle.format.specs.Published.{binary32}
 use Rattle.number.specs.declared.Number.{Number}
@@ -32,9 +34,19 @@ fractionOf n = n % 2 ^ 23
 unfoldable pub finite : ℕ → Bool
 finite n = not (eqb (fieldOf n) 255)
 
+unfoldable pub notFinite : ℕ → Bool
+notFinite n = not (finite n)
+
 -- the magnitude in units of 2 ^ -149
 unfoldable pub magnitudeRead : ℕ → ℕ
 magnitudeRead n = cond (eqb (fieldOf n) 0) (fractionOf n) ((2 ^ 23 + fractionOf n) * 2 ^ (fieldOf n - 1))
+
+-- the value of a finite pattern in units of 2 ^ -149
+unfoldable pub patternValue : ℕ → ℤ
+patternValue n = signed (signOf n) (magnitudeRead n)
+
+abbrev pub patternValues : List ℕ → List ℤ
+patternValues patterns = map patternValue patterns
 
 -- the number that a finite pattern stands for; zero is plus, so that 80000000 (hexadecimal) is zero too
 unfoldable pub numberRead : ℕ → Number
@@ -57,3 +69,8 @@ patternWritten x = after (entry binary32 [] (x ∷ [])) pattern.Refused (pattern
 abbrev pub answerWritten : Answer → Pattern
 answerWritten (answer.Value x) = pattern.Written (patternOf x)
 answerWritten (answer.Refused why) = pattern.Refused why
+
+-- ---- order
+-- a whole number that orders the patterns by their values: 2 ^ 31 more than the pattern as a sign and a number of 31 bits
+abbrev pub keyOf : ℕ → ℕ
+keyOf n = cond (signOf n) (2 ^ 31 - n % 2 ^ 31) (2 ^ 31 + n % 2 ^ 31)

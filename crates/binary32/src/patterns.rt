@@ -18,7 +18,7 @@ ghost use Rattle.number.specs.Numbers.{member};
 ghost use Rattle.binary32.specs.Patterns.{fieldOf, finite, numberRead, patternRead, patternOf, patternWritten};
 
 // Eight bits of the exponent.
-fn field_of(pattern: u32) -> u32
+pub fn field_of(pattern: u32) -> u32
     ensures { λ r. ⌜ r ≡ fieldOf pattern ⌝ }
 {
     pattern / 8388608 % 256

@@ -5,4 +5,5 @@ pub mod Halves
 pub mod Passes
 pub mod CallLaws
 pub mod SliceLaws
+pub mod ExactSums
 pub mod Agreement

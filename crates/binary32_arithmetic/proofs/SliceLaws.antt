@@ -1,20 +1,22 @@
 -- What a sum of slices answers and writes, in the words of document 01: the lengths (11), the direction (2), then 9 and 5 entry by
 -- entry, the lower index first; and each entry that is written is the sum of the two entries that it was made of.
-use Prim.Native.Nat.{ℕ, zero, suc, _+_, _≤_, _<_}
+use Prim.Native.Nat.{ℕ, _≤_, _<_}
 use mathlib.Core.Path.{_≡_, refl, sym, ap, _∙_}
 use mathlib.Core.Bool.{Bool, true, false}
-use mathlib.Core.List.{List, [], _∷_}
+use mathlib.Core.List.{List}
 use mathlib.Core.Logic.{_⊎_, inl, inr}
-use native.Mathlib.Nat.{add-zero, zero-add, add-suc, suc-add, le-of-suc-le-suc, not-suc-le-zero}
+use native.Mathlib.Decide.{decLe}
 use native.Mathlib.Omega.{arith}
 use lib.Dec.{leb, eqb}
 use lib.IntN.{ℤ, natAbs, _+ℤ_}
-use lib.ListN.{length, getD}
+use lib.ListN.{length, getD, length-map, List·getD-map, List·getD-eq-default}
 use borrow.Author.Tests.{leb-true, leb-false, eqb-true, eq-eqb}
 use Rattle.theory.specs.Tests.{_and_, unless}
+use Rattle.theory.specs.Lists.{firstWhere}
 use Rattle.theory.specs.Round.{Direction, round}
 use Rattle.theory.specs.Signed.{is-negative}
 use Rattle.theory.proofs.Tests.{never, and-left, and-right, and-made}
+use Rattle.theory.proofs.Lists.{first-before, first-passes}
 use Rattle.format.specs.declared.Refusal.{Refusal}
 use Rattle.format.specs.declared.Refusal.the-variants.{NoSuchDirection, TooLarge, NotFinite, LengthsDiffer}
 use Rattle.format.specs.Directions.{isDirection, direction}
@@ -29,7 +31,8 @@ use Rattle.binary32_arithmetic.specs.declared.Operation.the-variants.{Su
 use Rattle.binary32_arithmetic.specs.declared.SliceAnswer.{SliceAnswer}
 use Rattle.binary32_arithmetic.specs.declared.SliceAnswer.the-variants as answer
 use Rattle.binary32_arithmetic.specs.Calls.{onPatterns}
-use Rattle.binary32_arithmetic.specs.Slices.{orElse, firstRefused, written, sums, slicesAnswer}
+use Rattle.binary32_arithmetic.specs.Slices.{isRefused, answerAt, written, entries, firstRefused, sums, slicesAnswer}
+use Rattle.binary32_arithmetic.proofs.Passes.{entries-length, entry-at}
 
 -- the sum of the two entries with index i
 abbrev pub entryOf : Direction → (a b : List ℕ) (i : ℕ) → Pattern
@@ -79,51 +82,58 @@ entry-refusals d x y {why} h = finite-or (finite x and finite y) h
 -- there are as many sums as entries
 pub sums-length : (d : Direction) (a b : List ℕ) → length a ≡ length b → length (sums d a b) ≡ length a
 unfolding sums
-sums-length d [] b e = refl
-sums-length d (x ∷ a) [] e = absurd (omega (arith, e))
-sums-length d (x ∷ a) (y ∷ b) e = ap suc (sums-length d a b (omega (arith, e)))
+sums-length d a b e = length-map (entries d a b) written ∙ entries-length d a b e
 
--- ---- from entry 0 on, which has the index k
-data Found (d : Direction) (k : ℕ) (a b : List ℕ) (r : SliceAnswer) : Type 0 where
-  at : {why : Refusal} {i : ℕ} → FirstRefused d a b why i → r ≡ answer.RefusedAt why (k + i) → Found d k a b r
-  none : Sums d a b (length a) → r ≡ answer.Done → Found d k a b r
-
--- one entry more, before those of a and b
-module _ (d : Direction) (x y : ℕ) (a b : List ℕ) where
-  longer : {n v : ℕ} → onPatterns Sum d x y ≡ pattern.Written v → Sums d a b n → Sums d (x ∷ a) (y ∷ b) (suc n)
+-- an entry that is not refused is written
+module _ (d : Direction) (a b : List ℕ) (e : length a ≡ length b) where
+  sum-at : (i : ℕ) → i < length a → isRefused (getD (entries d a b) i (pattern.Written 0)) ≡ false → entryOf d a b i ≡ pattern.Written (getD (sums d a b) i 0)
   unfolding sums
-  longer h s zero l = h ∙ ap (λ (p : Pattern). pattern.Written (written p)) (sym h)
-  longer h s (suc i) l = s i (le-of-suc-le-suc l)
+  sum-at i l h =
+      sym (entry-at d a b e i l)
+      ∙ by (getD (entries d a b) i (pattern.Written 0)) h
+      ∙ ap pattern.Written (sym (List·getD-map written (entries d a b) i (pattern.Written 0)))
+    where
+      by : (p : Pattern) → isRefused p ≡ false → p ≡ pattern.Written (written p)
+      by (pattern.Written n) h = refl
+      by (pattern.Refused why) h = absurd (never h)
 
-  found-before : (k : ℕ) {rest : SliceAnswer} (p : Pattern) → onPatterns Sum d x y ≡ p → Found d (suc k) a b rest → Found d k (x ∷ a) (y ∷ b) (orElse p k rest)
-  found-before k (pattern.Refused why) h f =
-      at {i = 0} (record { within = omega arith; refused = h; earlier = λ i l. absurd (not-suc-le-zero l) }) (rw add-zero)
-  found-before k (pattern.Written v) h (at {why = why} {i = i} f e) =
-      at {i = suc i} (record { within = omega (arith, f .within); refused = f .refused; earlier = longer h (f .earlier) })
-      (e ∙ ap (answer.RefusedAt why) (suc-add k i ∙ sym (add-suc k i)))
-  found-before k (pattern.Written v) h (none s e) = none (longer h s) e
-
-found : (d : Direction) (k : ℕ) (a b : List ℕ) → length a ≡ length b → Found d k a b (firstRefused d k a b)
-unfolding firstRefused
-found d k [] b e = none (λ i h. absurd (not-suc-le-zero h)) refl
-found d k (x ∷ a) [] e = absurd (omega (arith, e))
-found d k (x ∷ a) (y ∷ b) e = found-before d x y a b k (onPatterns Sum d x y) refl (found d (suc k) a b (omega (arith, e)))
+  sums-upto : (n : ℕ) → n ≤ length a → n ≤ firstWhere isRefused (entries d a b) → Sums d a b n
+  sums-upto n l h i k = sum-at i (omega arith) (first-before isRefused (pattern.Written 0) (entries d a b) i (omega arith))
 
 -- ---- the call
 pub slices-end : (d : ℕ) (a b out : List ℕ) → Ends d a b out (slicesAnswer d a b out)
-unfolding slicesAnswer isDirection unless
+unfolding slicesAnswer isDirection unless firstRefused
 slices-end d a b out = by-lengths (eqb (length a) (length b) and eqb (length a) (length out)) refl
   where
-    by-entries : SameLengths a b out → d ≤ 4 → {r : SliceAnswer} → Found (direction d) 0 a b r → Ends d a b out r
-    by-entries l h (at {why = why} {i = i} f e) = refused-entry l h f (e ∙ ap (answer.RefusedAt why) (zero-add i))
-    by-entries l h (none s e) = all-written l h s e
+    first : ℕ
+    first = firstWhere isRefused (entries (direction d) a b)
+
+    by-entry : SameLengths a b out → d ≤ 4 → first < length a → (p : Pattern) → getD (entries (direction d) a b) first (pattern.Written 0) ≡ p
+        → Ends d a b out (answerAt p first)
+    by-entry l h m (pattern.Written n) e =
+        absurd (never (sym (first-passes isRefused (pattern.Written 0) (entries (direction d) a b) (omega (arith, entries-length (direction d) a b (l .0)))) ∙ ap isRefused e))
+    by-entry l h m (pattern.Refused why) e =
+        refused-entry l h
+        (record {
+          within = m;
+          refused = sym (entry-at (direction d) a b (l .0) first m) ∙ e;
+          earlier = sums-upto (direction d) a b (l .0) first (omega arith) (omega arith);
+        })
+        refl
+
+    by-first : SameLengths a b out → d ≤ 4 → Dec (length a ≤ first) → Ends d a b out (firstRefused (entries (direction d) a b))
+    by-first l h (yes m) =
+        let past : length (entries (direction d) a b) ≤ first = omega (arith, entries-length (direction d) a b (l .0)) in
+        all-written l h (sums-upto (direction d) a b (l .0) (length a) (omega arith) m)
+        (ap (λ (p : Pattern). answerAt p first) (List·getD-eq-default (entries (direction d) a b) (pattern.Written 0) past))
+    by-first l h (no m) = by-entry l h (omega arith) (getD (entries (direction d) a b) first (pattern.Written 0)) refl
 
     by-direction : SameLengths a b out → (t : Bool) → leb d 4 ≡ t
-        → Ends d a b out (unless t (answer.Refused NoSuchDirection) (firstRefused (direction d) 0 a b))
-    by-direction l true h = by-entries l (leb-true d 4 h) (found (direction d) 0 a b (l .0))
+        → Ends d a b out (unless t (answer.Refused NoSuchDirection) (firstRefused (entries (direction d) a b)))
+    by-direction l true h = by-first l (leb-true d 4 h) (decLe (length a) first)
     by-direction l false h = no-direction l (leb-false d 4 h) refl
 
     by-lengths : (t : Bool) → eqb (length a) (length b) and eqb (length a) (length out) ≡ t
-        → Ends d a b out (unless t (answer.Refused LengthsDiffer) (unless (leb d 4) (answer.Refused NoSuchDirection) (firstRefused (direction d) 0 a b)))
+        → Ends d a b out (unless t (answer.Refused LengthsDiffer) (unless (leb d 4) (answer.Refused NoSuchDirection) (firstRefused (entries (direction d) a b))))
     by-lengths true h = by-direction (eqb-true _ _ (and-left _ _ h), eqb-true _ _ (and-right _ _ h)) (leb d 4) refl
     by-lengths false h = lengths-differ (λ l. never (sym (and-made (eq-eqb _ _ (l .0)) (eq-eqb _ _ (l .1))) ∙ h)) refl

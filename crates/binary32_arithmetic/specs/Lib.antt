@@ -1,3 +1,4 @@
 -- What the calls on patterns answer, and what a sum of slices writes.
 pub mod Calls
 pub mod Slices
+pub mod Exact

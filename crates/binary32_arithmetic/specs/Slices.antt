@@ -1,9 +1,11 @@
 -- The sum of two slices of patterns, entry by entry.
-use Prim.Native.Nat.{ℕ, suc}
-use mathlib.Core.List.{List, [], _∷_}
+use Prim.Native.Nat.{ℕ}
+use mathlib.Core.Bool.{Bool, true, false}
+use mathlib.Core.List.{List, [], _∷_, map}
 use lib.Dec.{eqb}
-use lib.ListN.{length}
+use lib.ListN.{length, getD}
 use Rattle.theory.specs.Tests.{_and_, unless}
+use Rattle.theory.specs.Lists.{firstWhere}
 use Rattle.theory.specs.Round.{Direction}
 use Rattle.format.specs.declared.Verdict.{Verdict}
 use Rattle.format.specs.declared.Verdict.the-variants as verdict
@@ -21,33 +23,40 @@ abbrev pub verdictOf : Pattern → Verdict
 verdictOf (pattern.Written n) = verdict.Passed
 verdictOf (pattern.Refused why) = verdict.Refused why
 
--- the refusal of an entry with its index, or what comes after it
-abbrev pub orElse : Pattern → (index : ℕ) (rest : SliceAnswer) → SliceAnswer
-orElse (pattern.Written n) index rest = rest
-orElse (pattern.Refused why) index rest = answer.RefusedAt why index
+abbrev pub isRefused : Pattern → Bool
+isRefused (pattern.Written n) = false
+isRefused (pattern.Refused why) = true
 
--- the first refused entry, the first one having the given index
-unfoldable pub firstRefused : Direction → (index : ℕ) (a b : List ℕ) → SliceAnswer
-firstRefused d index [] b = answer.Done
-firstRefused d index (x ∷ a) [] = answer.Done
-firstRefused d index (x ∷ a) (y ∷ b) = orElse (onPatterns Sum d x y) index (firstRefused d (suc index) a b)
+-- the refusal of an entry with its index
+abbrev pub answerAt : Pattern → (index : ℕ) → SliceAnswer
+answerAt (pattern.Written n) index = answer.Done
+answerAt (pattern.Refused why) index = answer.RefusedAt why index
 
 -- the pattern that is written, where there is one
 abbrev pub written : Pattern → ℕ
 written (pattern.Written n) = n
 written (pattern.Refused why) = 0
 
--- entry by entry
-unfoldable pub sums : Direction → (a b : List ℕ) → List ℕ
-sums d [] b = []
-sums d (x ∷ a) [] = []
-sums d (x ∷ a) (y ∷ b) = written (onPatterns Sum d x y) ∷ sums d a b
+-- ---- all entries
+unfoldable pub entries : Direction → (a b : List ℕ) → List Pattern
+entries d [] b = []
+entries d (x ∷ a) [] = []
+entries d (x ∷ a) (y ∷ b) = onPatterns Sum d x y ∷ entries d a b
 
+-- the refusal of the first entry that is refused, with its index
+unfoldable pub firstRefused : List Pattern → SliceAnswer
+firstRefused sums = answerAt (getD sums (firstWhere isRefused sums) (pattern.Written 0)) (firstWhere isRefused sums)
+
+-- what is written, entry by entry
+unfoldable pub sums : Direction → (a b : List ℕ) → List ℕ
+sums d a b = map written (entries d a b)
+
+-- ---- the call
 -- the answer of sum_slices: the lengths (11), the direction (2), then 9 and 5 entry by entry
 unfoldable pub slicesAnswer : (d : ℕ) (a b out : List ℕ) → SliceAnswer
 slicesAnswer d a b out =
     unless (eqb (length a) (length b) and eqb (length a) (length out)) (answer.Refused LengthsDiffer)
-    (unless (isDirection d) (answer.Refused NoSuchDirection) (firstRefused (direction d) 0 a b))
+    (unless (isDirection d) (answer.Refused NoSuchDirection) (firstRefused (entries (direction d) a b)))
 
 -- what the third slice holds afterwards: the sums, or at a refusal what it held before
 abbrev pub slicesWritten : SliceAnswer → (new old : List ℕ) → List ℕ

@@ -1,5 +1,7 @@
-// Arithmetic on binary32 patterns: sum, difference, product and quotient of two patterns, and the sum of two slices.
+// Arithmetic on binary32 patterns: sum, difference, product and quotient of two patterns, the sum of two slices, and exact comparisons
+// of sums.
 pub mod entry;
+pub mod exact;
 pub mod operations;
 pub mod slices;
 

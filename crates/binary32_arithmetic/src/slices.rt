@@ -17,7 +17,7 @@ ghost use Rattle.format.specs.Directions as directions;
 ghost use Rattle.format.specs.Directions.{sense};
 ghost use Rattle.binary32_arithmetic.specs.Calls.{onPatterns};
 ghost use Rattle.binary32_arithmetic.specs.declared.Operation.the-variants.{Sum};
-ghost use Rattle.binary32_arithmetic.specs.Slices.{verdictOf, written, firstRefused, sums, slicesAnswer, slicesWritten};
+ghost use Rattle.binary32_arithmetic.specs.Slices.{verdictOf, written, entries, firstRefused, sums, slicesAnswer, slicesWritten};
 
 // Is the pattern's magnitude at most half the greatest number? Its exponent field is below 254.
 fn is_half(pattern: u32) -> bool
@@ -60,7 +60,7 @@ fn written_or_zero(pattern: Pattern) -> u32
 // The first pass.
 fn first_refused(direction: Direction, a: &[u32], b: &[u32]) -> SliceAnswer
     requires { ⌜ length (now a) ≡ length (now b) ⌝ }
-    ensures { λ r. ⌜ r ≡ firstRefused (sense direction) 0 (now (a .entry)) (now (b .entry)) ⌝ }
+    ensures { λ r. ⌜ r ≡ firstRefused (entries (sense direction) (now (a .entry)) (now (b .entry))) ⌝ }
 {
     let mut i = 0;
     while i < a.len() {

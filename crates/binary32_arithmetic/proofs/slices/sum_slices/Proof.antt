@@ -13,7 +13,7 @@ use Rattle.theory.proofs.Tests.{and-made, denied, granted, unless-passed, unles
 use Rattle.format.specs.declared.Refusal.the-variants.{NoSuchDirection, LengthsDiffer}
 use Rattle.format.specs.Directions.{isDirection, direction}
 use Rattle.binary32_arithmetic.specs.declared.SliceAnswer.the-variants.{Refused}
-use Rattle.binary32_arithmetic.specs.Slices.{firstRefused, sums, slicesAnswer}
+use Rattle.binary32_arithmetic.specs.Slices.{entries, firstRefused, sums, slicesAnswer}
 use Rattle.binary32_arithmetic.proofs.Passes.{never-plain}
 use Rattle.binary32_arithmetic.proofs.slices.sum_slices.Statement.{statement}
 use Rattle.binary32_arithmetic.proofs.slices.sum_slices.Tie as tie
@@ -37,10 +37,10 @@ module _ (d : ℕ) (a b out : List ℕ) where
     unfolding slicesAnswer
     no-direction h = sym (unless-passed _ _ (and-made (eq-eqb _ _ e) (eq-eqb _ _ g)) ∙ unless-failed _ _ h)
 
-    checked : isDirection d ≡ true → {s : Direction} → s ≡ direction d → firstRefused s 0 a b ≡ slicesAnswer d a b out
+    checked : isDirection d ≡ true → {s : Direction} → s ≡ direction d → firstRefused (entries s a b) ≡ slicesAnswer d a b out
     unfolding slicesAnswer
     checked h k =
-        ap (λ (t : Direction). firstRefused t 0 a b) k ∙ sym (unless-passed _ _ (and-made (eq-eqb _ _ e) (eq-eqb _ _ g)) ∙ unless-passed _ _ h)
+        ap (λ (t : Direction). firstRefused (entries t a b)) k ∙ sym (unless-passed _ _ (and-made (eq-eqb _ _ e) (eq-eqb _ _ g)) ∙ unless-passed _ _ h)
 
 returns : tie.Need-returns
 returns c =
@@ -77,7 +77,7 @@ module _ (j : tie.After-first-refused) where
 returns-4 : tie.Need-returns-4
 returns-4 c =
     let j = c .before .before .before in
-    absurd (never-plain _ _ _ _ (sym (j .first-refused .ensures) ∙ c .before .why .given .1))
+    absurd (never-plain _ (sym (j .first-refused .ensures) ∙ c .before .why .given .1))
 
 returns-5 : tie.Need-returns-5
 returns-5 c = (sym (c .before .why2 .given .1) ∙ passed (c .before .before .before), refl)

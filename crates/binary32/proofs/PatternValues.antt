@@ -1,0 +1,100 @@
+-- The values of patterns as whole multiples of 2 ^ -149: that of a finite pattern is the value of the number read, keys are in the
+-- order of the values, and what a list of patterns says of the list of its values.
+use Prim.Native.Nat.{ℕ, _+_, _-_, _%_, _^_, _≤_, _<_}
+use mathlib.Core.Path.{_≡_, refl, sym, ap, ap₂, _∙_}
+use mathlib.Core.Bool.{Bool, true, false, not, cond}
+use mathlib.Core.List.{List, map}
+use native.Mathlib.Omega.{arith}
+use lib.Dec.{ltb, eqb}
+use lib.IntN.{pos}
+use lib.ListN.{length, getD, length-map, List·getD-map}
+use lib.Signed.{ltZ}
+use borrow.Author.Tests.{lt-ltb, le-ltb, not-true, not-false, le-leb, lt-leb}
+use Rattle.theory.specs.Signed.{signed}
+use Rattle.theory.specs.Lists.{none}
+use Rattle.theory.proofs.Integers.{neg-above, neg-below}
+use Rattle.theory.proofs.Lists.{none-at}
+use Rattle.format.specs.Published.{binary32}
+use Rattle.format.proofs.Signed.{Upto, Under, lt-true, lt-false}
+use Rattle.number.specs.Numbers.{value}
+use Rattle.binary32.specs.Patterns.{signOf, fieldOf, finite, notFinite, magnitudeRead, patternValue, patternValues, numberRead, keyOf}
+use Rattle.binary32.proofs.PatternOrder.{signedPattern, signed-order, magnitudes-ordered}
+use Rattle.binary32.proofs.RoundTrips.{read-made, read-value}
+
+-- the number that is read has the value
+pub read-is-value : (n : ℕ) → finite n ≡ true → value binary32 (numberRead n) ≡ patternValue n
+unfolding patternValue
+read-is-value n h = read-value n (read-made n h)
+
+-- ---- finite or not
+pub finite-made : (n : ℕ) → notFinite n ≡ false → finite n ≡ true
+unfolding notFinite
+finite-made n h = not-false (finite n) h
+
+pub finite-fails : (n : ℕ) → notFinite n ≡ true → finite n ≡ false
+unfolding notFinite
+finite-fails n h = not-true (finite n) h
+
+-- by a test that was made
+pub field-finite : (n : ℕ) {field : ℕ} → field ≡ fieldOf n → not (eqb field 255) ≡ finite n
+unfolding finite
+field-finite n e = ap (λ (k : ℕ). not (eqb k 255)) e
+
+module _ (n : ℕ) {t : Bool} (e : t ≡ finite n) where
+  pub finite-stops : not t ≡ true → notFinite n ≡ true
+  unfolding notFinite
+  finite-stops h = ap not (sym e) ∙ h
+
+  pub finite-passes : not t ≡ false → notFinite n ≡ false
+  unfolding notFinite
+  finite-passes h = ap not (sym e) ∙ h
+
+-- no pattern of the list fails to be finite
+pub all-finite : (l : List ℕ) → none notFinite l ≡ true → (k : ℕ) → k < length l → finite (getD l k 0) ≡ true
+all-finite l h k m = finite-made (getD l k 0) (none-at notFinite 0 l h k m)
+
+-- ---- keys
+abbrev keyAt : Bool → ℕ → ℕ
+keyAt s m = cond s (2 ^ 31 - m) (2 ^ 31 + m)
+
+keys-less : (s t : Bool) (m n : ℕ) → m < 2 ^ 31 → n < 2 ^ 31 → Under (signed s m) (signed t n) → keyAt s m < keyAt t n
+keys-less false false m n hm hn h = omega arith
+keys-less false true m n hm hn h = absurd (omega (arith, neg-above (pos n), neg-below (pos n)))
+keys-less true false m n hm hn h = omega (arith, neg-above (pos m), neg-below (pos m))
+keys-less true true m n hm hn h = omega (arith, neg-above (pos m), neg-below (pos m), neg-above (pos n), neg-below (pos n))
+
+keys-most : (s t : Bool) (m n : ℕ) → m < 2 ^ 31 → n < 2 ^ 31 → Upto (signed t n) (signed s m) → keyAt t n ≤ keyAt s m
+keys-most false false m n hm hn h = omega arith
+keys-most false true m n hm hn h = omega (arith, neg-above (pos n), neg-below (pos n))
+keys-most true false m n hm hn h = omega (arith, neg-above (pos m), neg-below (pos m))
+keys-most true true m n hm hn h = omega (arith, neg-above (pos m), neg-below (pos m), neg-above (pos n), neg-below (pos n))
+
+-- the order of the keys is that of the values
+pub key-order : (a b : ℕ) {x y : ℕ} → x ≡ keyOf a → y ≡ keyOf b → ltb x y ≡ ltZ (patternValue a) (patternValue b)
+unfolding patternValue
+key-order a b {x} {y} e f =
+    ap₂ ltb e f
+    ∙ by (ltZ (signedPattern a) (signedPattern b)) refl
+    ∙ sym (signed-order (magnitudes-ordered a b) (signOf a) (signOf b))
+  where
+    by : (t : Bool) → ltZ (signedPattern a) (signedPattern b) ≡ t → ltb (keyOf a) (keyOf b) ≡ t
+    by true g = lt-ltb (keyOf a) (keyOf b) (keys-less (signOf a) (signOf b) (a % 2 ^ 31) (b % 2 ^ 31) (omega arith) (omega arith) (lt-true (signedPattern a) (signedPattern b) g))
+    by false g = le-ltb (keyOf a) (keyOf b) (keys-most (signOf a) (signOf b) (a % 2 ^ 31) (b % 2 ^ 31) (omega arith) (omega arith) (lt-false (signedPattern a) (signedPattern b) g))
+
+pub key-minus : (n : ℕ) → 2 ^ 31 ≤ n → 2 ^ 31 - n % 2 ^ 31 ≡ keyOf n
+key-minus n h = rw (le-leb (2 ^ 31) n h)
+
+pub key-plus : (n : ℕ) → n < 2 ^ 31 → 2 ^ 31 + n % 2 ^ 31 ≡ keyOf n
+key-plus n h = rw (lt-leb (2 ^ 31) n h)
+
+-- ---- lists
+pub zero-value : patternValue 0 ≡ pos 0
+unfolding patternValue magnitudeRead
+zero-value = refl
+
+module _ (l : List ℕ) where
+  pub value-at : (k : ℕ) → getD (patternValues l) k (pos 0) ≡ patternValue (getD l k 0)
+  value-at k = ap (getD (map patternValue l) k) (sym zero-value) ∙ List·getD-map patternValue l k 0
+
+  pub values-length : length (patternValues l) ≡ length l
+  values-length = length-map l patternValue

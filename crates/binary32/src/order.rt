@@ -1,0 +1,22 @@
+// The order of patterns by their values.
+ghost use mathlib.Core.Path.{_≡_};
+ghost use lib.Signed.{ltZ};
+ghost use Rattle.binary32.specs.Patterns.{patternValue, keyOf};
+
+// A whole number that is in the order of the values.
+fn key(pattern: u32) -> u32
+    ensures { λ r. ⌜ r ≡ keyOf pattern ⌝ }
+{
+    let size = pattern % 2147483648;
+    if 2147483648 <= pattern {
+        return 2147483648 - size;
+    }
+    2147483648 + size
+}
+
+// Is the value of a below that of b?
+pub fn is_below(a: u32, b: u32) -> bool
+    ensures { λ r. ⌜ r ≡ ltZ (patternValue a) (patternValue b) ⌝ }
+{
+    key(a) < key(b)
+}

@@ -1,0 +1,181 @@
+-- Sums of numbers of the wide format with 24 binary digits, rounded down: a sum that is rounded down is at least a number of the format
+-- exactly where the sum is.
+use Prim.Native.Nat.{ℕ, zero, suc, _+_, _*_, _^_, _≤_, _<_}
+use mathlib.Core.Path.{_≡_, refl, sym, ap, _∙_}
+use mathlib.Core.Bool.{Bool, true, false, not, _&&_}
+use native.Mathlib.Omega.{arith}
+use native.Mathlib.Nat.{mul-pos}
+use lib.Dec.{eqb}
+use lib.IntN.{ℤ, pos, negℤ, natAbs, _+ℤ_}
+use lib.Signed.{leZ}
+use Rattle.theory.specs.Place.{Positional}
+use Rattle.theory.specs.Wide as theory
+use Rattle.theory.specs.Round.{downward}
+use Rattle.theory.specs.Signed.{signed, WideZ, roundZ}
+use Rattle.theory.proofs.Powers.{pow-pos}
+use Rattle.theory.proofs.Wide.{wide-zero, wide-shift}
+use Rattle.theory.proofs.Canonical.{canonical-wide}
+use Rattle.theory.proofs.Integers.{above, below, sum-parts, size-parts, neg-above, neg-below, negate-signed, size-signed, le-parts, scale-le-parts, parts-scale-le}
+use Rattle.theory.proofs.Signed.{downward-le, downward-greatest, roundZ-exact}
+use Rattle.theory.proofs.Tests.{never}
+use Rattle.format.specs.declared.Scale.{Scale}
+use Rattle.format.specs.declared.Direction.{Direction}
+use Rattle.format.specs.declared.Direction.the-variants.{Downward}
+use Rattle.format.specs.declared.Prepared.{Prepared}
+use Rattle.format.specs.Formats.{Scaled, scaleOf, preparedOf}
+use Rattle.format.specs.Published.{binary32}
+use Rattle.format.proofs.Signed.{Upto, Under, apart, le-true, le-false}
+use Rattle.format.proofs.Formats.{positional, scaled}
+use Rattle.wide.specs.declared.Wide.{Wide}
+use Rattle.wide.specs.Operand.{Operand, sizeOf, valueOf}
+use Rattle.wide.specs.Sum.{summed}
+use Rattle.wide.proofs.Results.{summed-result, summed-value, summed-place}
+use Rattle.number.specs.declared.Number.{Number}
+use Rattle.number.specs.Numbers.{member, magnitude, value}
+use Rattle.number.proofs.Membership.{Member}
+use Rattle.number.proofs.Values.{member-canonical, member-highest}
+use Rattle.prepared_arithmetic.specs.Operands.{wideOf}
+use Rattle.binary32.specs.Patterns.{finite, patternValue, numberRead}
+use Rattle.binary32.proofs.Fields.{binary32-limits}
+use Rattle.binary32.proofs.RoundTrips.{reads, read-made, read-member, read-inside}
+use Rattle.binary32.proofs.PatternValues.{read-is-value}
+use Rattle.binary32_arithmetic.specs.Exact.{Placed, Holds, turned}
+
+pub binary-24 : Positional 2 24
+binary-24 = positional binary32-limits
+
+-- ---- operands
+module _ {s : Scale} (e : s ≡ scaleOf binary32) where
+  pub scaled-here : Scaled s
+  scaled-here = rw e (scaled binary32-limits)
+
+  pub operand-here : {k : ℕ} {x : Wide} → k < 2 ^ 28 → Placed k x → Operand s x
+  operand-here l h = rw e (record { canonical = h .canonical; place-most = omega (arith, h .place-most) })
+
+  pub sum-here : (d : Direction) (x y : Wide) {r : Wide} → r ≡ summed (s .base) (s .digits) d x y → r ≡ summed 2 24 d x y
+  sum-here d x y h = rw e at h
+
+pub placed-more : {k : ℕ} {x : Wide} (n : ℕ) → k ≤ n → Placed k x → Placed n x
+placed-more n l h = record { canonical = h .canonical; place-most = omega (arith, h .place-most) }
+
+pub value-wide : {k : ℕ} {x : Wide} → Placed k x → WideZ 2 24 (valueOf 2 x)
+value-wide {x = x} h = rw (size-signed (x .negative) (sizeOf 2 x)) (canonical-wide binary-24 (h .canonical))
+
+-- ---- the sum, rounded down
+module _ (x y : Wide) where
+  pub down-value : valueOf 2 (summed 2 24 Downward x y) ≡ roundZ 2 24 downward (valueOf 2 x +ℤ valueOf 2 y) 1
+  down-value = summed-value binary-24 Downward x y
+
+  pub down-placed : {k : ℕ} → Placed k x → Placed k y → Placed (k + 1) (summed 2 24 Downward x y)
+  down-placed {k} h g =
+      record {
+        canonical = summed-result binary-24 Downward x y .canonical;
+        place-most = summed-place binary-24 Downward x y (h .canonical) (g .canonical) k (h .place-most) (g .place-most);
+      }
+
+  -- a result below zero is one that is not zero
+  down-minus : summed 2 24 Downward x y .negative ≡ true → Under (valueOf 2 (summed 2 24 Downward x y)) (pos 0)
+  down-minus h = by (summed 2 24 Downward x y) _ h (summed-result binary-24 Downward x y .sign)
+    where
+      minus : (m k : ℕ) (s t : Bool) → s ≡ true → s ≡ not (eqb m 0) && t → Under (signed s (m * 2 ^ k)) (pos 0)
+      minus zero k s t h e = absurd (never (sym h ∙ e))
+      minus (suc m) k s t h e =
+          rw h (omega (arith, neg-above (pos (suc m * 2 ^ k)), neg-below (pos (suc m * 2 ^ k)), mul-pos {m = suc m} (omega arith) (pow-pos {β = 2} (omega arith) k)))
+
+      by : (r : Wide) (t : Bool) → r .negative ≡ true → r .negative ≡ not (eqb (r .significand) 0) && t → Under (valueOf 2 r) (pos 0)
+      by r t h e = minus (r .significand) (r .place) (r .negative) t h e
+
+  down-plus : summed 2 24 Downward x y .negative ≡ false → Upto (pos 0) (valueOf 2 (summed 2 24 Downward x y))
+  down-plus h = rw h (omega arith)
+
+-- N rounded down is at least a number of the format exactly where N is
+module _ (N w : ℤ) (h : WideZ 2 24 w) where
+  down-reaches : Upto w N → Upto w (roundZ 2 24 downward N 1)
+  down-reaches l = le-parts (downward-greatest binary-24 (omega arith) N w h (parts-scale-le w 1 N (omega arith)))
+
+  reaches-down : Upto w (roundZ 2 24 downward N 1) → Upto w N
+  reaches-down l = omega (arith, scale-le-parts (roundZ 2 24 downward N 1) 1 (downward-le binary-24 (omega arith) N))
+
+-- ---- is a + b at least c?
+module _ (a b c : Wide) {k : ℕ} (h : Placed k c) where
+  abbrev low : Wide
+  low = summed 2 24 Downward a b
+
+  abbrev rest : Wide
+  rest = summed 2 24 Downward low (turned c)
+
+  turned-value : valueOf 2 (turned c) ≡ negℤ (valueOf 2 c)
+  turned-value = sym (negate-signed (c .negative) (sizeOf 2 c))
+
+  -- a + b rounded down, less c
+  difference : Upto (valueOf 2 c) (valueOf 2 low) → Upto (pos 0) (valueOf 2 low +ℤ valueOf 2 (turned c))
+  difference l =
+      omega (arith, sum-parts (valueOf 2 low) (valueOf 2 (turned c)), ap above turned-value, ap below turned-value, neg-above (valueOf 2 c), neg-below (valueOf 2 c))
+
+  difference-back : Upto (pos 0) (valueOf 2 low +ℤ valueOf 2 (turned c)) → Upto (valueOf 2 c) (valueOf 2 low)
+  difference-back l =
+      omega (arith, sum-parts (valueOf 2 low) (valueOf 2 (turned c)), ap above turned-value, ap below turned-value, neg-above (valueOf 2 c), neg-below (valueOf 2 c))
+
+  abbrev total : ℤ
+  total = valueOf 2 a +ℤ valueOf 2 b
+
+  there : Upto (valueOf 2 c) total → Upto (pos 0) (valueOf 2 rest)
+  there l =
+      let lower : Upto (valueOf 2 c) (valueOf 2 low) = rw (down-value a b) (down-reaches total (valueOf 2 c) (value-wide h) l) in
+      rw (down-value low (turned c)) (down-reaches (valueOf 2 low +ℤ valueOf 2 (turned c)) (pos 0) (wide-zero binary-24) (difference lower))
+
+  back : Upto (pos 0) (valueOf 2 rest) → Upto (valueOf 2 c) total
+  back l =
+      let lower : Upto (valueOf 2 c) (valueOf 2 low) =
+      difference-back (reaches-down (valueOf 2 low +ℤ valueOf 2 (turned c)) (pos 0) (wide-zero binary-24) (rw (down-value low (turned c)) at l)) in
+      reaches-down total (valueOf 2 c) (value-wide h) (rw (down-value a b) at lower)
+
+  pub reaches-exactly : not (rest .negative) ≡ leZ (valueOf 2 c) (valueOf 2 a +ℤ valueOf 2 b)
+  reaches-exactly = by (rest .negative) (leZ (valueOf 2 c) (valueOf 2 a +ℤ valueOf 2 b)) refl refl
+    where
+      by : (n t : Bool) → rest .negative ≡ n → leZ (valueOf 2 c) (valueOf 2 a +ℤ valueOf 2 b) ≡ t → not n ≡ t
+      by true true e f = absurd (omega (arith, down-minus low (turned c) e, there (le-true (valueOf 2 c) total f)))
+      by true false e f = refl
+      by false true e f = refl
+      by false false e f = absurd (omega (arith, back (down-plus low (turned c) e), le-false (valueOf 2 c) total f))
+
+-- ---- 2 x is in the format
+twice-size : (v : ℤ) → natAbs (v +ℤ v) ≡ 2 * natAbs v
+twice-size v = omega (arith, size-parts (v +ℤ v), size-parts v, sum-parts v v, apart v, apart (v +ℤ v))
+
+pub twice-value : {k : ℕ} (x : Wide) → Placed k x → valueOf 2 (summed 2 24 Downward x x) ≡ valueOf 2 x +ℤ valueOf 2 x
+twice-value x h =
+    down-value x x
+    ∙ roundZ-exact binary-24 downward (valueOf 2 x +ℤ valueOf 2 x) (rw (twice-size (valueOf 2 x)) (wide-shift binary-24 (value-wide h)))
+
+-- ---- the number of a pattern
+pub pattern-member : (n : ℕ) → finite n ≡ true → {x : Number} → x ≡ numberRead n → member binary32 x ≡ true
+pattern-member n h e = rw e (read-member n (read-made n h))
+
+pub pattern-holds : (n : ℕ) → finite n ≡ true → {q : Prepared} → q ≡ preparedOf binary32 → {x : Number} → x ≡ numberRead n
+    → {w : Wide} → w ≡ wideOf (q .format) x → Holds 253 (patternValue n) w
+unfolding value magnitude
+pattern-holds n h {q} e {x} f {w} g = rw (g, e, f) (record { placed = there; value = read-is-value n h })
+  where
+    inside : Member binary32 (numberRead n)
+    inside = read-inside (reads n (read-made n h))
+
+    there : Placed 253 (wideOf binary32 (numberRead n))
+    there = record { canonical = member-canonical binary32-limits inside; place-most = member-highest binary32-limits inside }
+
+-- ---- what the code hands on
+pub twice-holds : (x : Wide) → Placed 253 x → {r : Wide} → r ≡ summed 2 24 Downward x x → Holds 254 (valueOf 2 x +ℤ valueOf 2 x) r
+twice-holds x h e = rw e (record { placed = down-placed x x h h; value = twice-value x h })
+
+pub low-placed : (a b : Wide) → Placed 260 a → Placed 260 b → {r : Wide} → r ≡ summed 2 24 Downward a b → Placed 300 r
+low-placed a b h g e = rw e (placed-more 300 (omega arith) (down-placed a b h g))
+
+pub turned-placed : {c m : Wide} → Placed 260 c → m ≡ turned c → Placed 300 m
+turned-placed h e = rw e (record { canonical = h .canonical; place-most = omega (arith, h .place-most) })
+
+pub reached : (a b c : Wide) → Placed 260 c → {l m r : Wide} → l ≡ summed 2 24 Downward a b → m ≡ turned c → r ≡ summed 2 24 Downward l m
+    → not (r .negative) ≡ leZ (valueOf 2 c) (valueOf 2 a +ℤ valueOf 2 b)
+reached a b c h e f g = rw (g, e, f) (reaches-exactly a b c h)
+
+pub sums-compared : {u v w u′ v′ w′ : ℤ} → u ≡ u′ → v ≡ v′ → w ≡ w′ → leZ w (u +ℤ v) ≡ leZ w′ (u′ +ℤ v′)
+sums-compared e f g = rw (e, f, g)

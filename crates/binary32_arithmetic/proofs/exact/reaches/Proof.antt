@@ -1,0 +1,21 @@
+-- `binary32_arithmetic::exact::reaches` meets its contract.
+use mathlib.Core.Path.{_∙_}
+use Rattle.binary32_arithmetic.proofs.ExactSums.{sums-compared}
+use borrow.Author.Needs.{needs}
+use Rattle.binary32_arithmetic.proofs.exact.reaches.Statement.{statement}
+use Rattle.binary32_arithmetic.proofs.exact.reaches.Tie as tie
+
+returns : tie.Need-returns
+returns c =
+    let o = c .before in
+    c .sum-reaches .ensures ∙ sums-compared (o .before .before .read-wide .ensures .value) (o .before .read-wide2 .ensures .value) (o .read-wide3 .ensures .value)
+
+pub reaches-spec : {M : Type 1} → statement M
+reaches-spec =
+    tie.close
+    (tie.spec
+    (λ c κs. search needs)
+    (λ c κs. search needs)
+    (λ c κs. search needs)
+    (λ c κs. search needs)
+    returns)
