@@ -4,6 +4,7 @@
 #include <stdio.h>
 
 #include "fractions.h"
+#include "lines.h"
 #include "operands.h"
 #include "peers.h"
 #include "programs.h"
@@ -265,6 +266,7 @@ int main(void) {
     routes(&settings[0]);
     three_steps(&settings[0]);
     all_patterns(&settings[0]);
+    time_lines();
     if (!time_programs())
         printf("\nplaces or cat did not run\n");
     return 0;

@@ -25,7 +25,9 @@ enum zurkeb_refusal {
     ZURKEB_PREMISE_FAILS = 8,
     ZURKEB_NOT_FINITE = 9,
     ZURKEB_NO_SUCH_FORMAT = 10,
-    ZURKEB_LENGTHS_DIFFER = 11
+    ZURKEB_LENGTHS_DIFFER = 11,
+    ZURKEB_LIST_LENGTH = 12, /* empty, or longer than 4,096 */
+    ZURKEB_LIST_DESCENDS = 13
 };
 
 /* The directions of rounding: a call takes their numbers. */
@@ -82,6 +84,13 @@ typedef struct zurkeb_slices_answer {
     uint64_t index; /* of the first refused entry, beside refusals 5 and 9 */
 } zurkeb_slices_answer;
 
+typedef struct zurkeb_position_answer {
+    uint32_t refusal;
+    uint32_t position;
+    uint32_t indexed; /* 1 where the refusal has an index */
+    uint32_t index;   /* of the first bad pattern in the list, beside refusal 9 */
+} zurkeb_position_answer;
+
 #ifdef __cplusplus
 #define ZURKEB_SIZE(type, size) static_assert(sizeof(type) == (size), #type)
 #else
@@ -95,6 +104,7 @@ ZURKEB_SIZE(zurkeb_published_answer, 20);
 ZURKEB_SIZE(zurkeb_triple_answer, 40);
 ZURKEB_SIZE(zurkeb_check_answer, 8);
 ZURKEB_SIZE(zurkeb_slices_answer, 16);
+ZURKEB_SIZE(zurkeb_position_answer, 16);
 #undef ZURKEB_SIZE
 
 /* Is the format admitted? 0, or 1. */
@@ -154,6 +164,11 @@ uint64_t zurkeb_pattern_quotient(uint32_t a, uint32_t b, uint32_t direction);
  * entry; a refused call leaves out as it was. out must not overlap a or b. */
 zurkeb_slices_answer zurkeb_sum_slices(const uint32_t *a, size_t a_length, const uint32_t *b, size_t b_length, uint32_t *out,
                                        size_t out_length, uint32_t direction);
+
+/* Saved lines: offsets are binary32 patterns, ascending by value, at most 4,096. Distances are exact. */
+/* The position of the offset nearest to the query; at equal distance the smaller offset, among equal offsets the first. Refuses 12,
+ * 9 (in the list with its index, the first; then the query without one), 13. */
+zurkeb_position_answer zurkeb_nearest_line(const uint32_t *offsets, size_t length, uint32_t query);
 
 #ifdef __cplusplus
 }

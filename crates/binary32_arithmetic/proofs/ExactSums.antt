@@ -3,20 +3,22 @@
 use Prim.Native.Nat.{ℕ, zero, suc, _+_, _*_, _^_, _≤_, _<_}
 use mathlib.Core.Path.{_≡_, refl, sym, ap, _∙_}
 use mathlib.Core.Bool.{Bool, true, false, not, _&&_}
+use mathlib.Core.Logic.{inl, inr, ⊎-elim}
+use native.Mathlib.Numerals.{add-one}
 use native.Mathlib.Omega.{arith}
-use native.Mathlib.Nat.{mul-pos}
+use native.Mathlib.Nat.{mul-pos, pow-suc}
 use lib.Dec.{eqb}
-use lib.IntN.{ℤ, pos, negℤ, natAbs, _+ℤ_}
-use lib.Signed.{leZ}
+use lib.IntN.{ℤ, pos, negℤ, _+ℤ_}
+use lib.Signed.{leZ, ltZ}
 use Rattle.theory.specs.Place.{Positional}
 use Rattle.theory.specs.Wide as theory
 use Rattle.theory.specs.Round.{downward}
 use Rattle.theory.specs.Signed.{signed, WideZ, roundZ}
 use Rattle.theory.proofs.Powers.{pow-pos}
-use Rattle.theory.proofs.Wide.{wide-zero, wide-shift}
+use Rattle.theory.proofs.Wide.{wide-zero}
 use Rattle.theory.proofs.Canonical.{canonical-wide}
-use Rattle.theory.proofs.Integers.{above, below, sum-parts, size-parts, neg-above, neg-below, negate-signed, size-signed, le-parts, scale-le-parts, parts-scale-le}
-use Rattle.theory.proofs.Signed.{downward-le, downward-greatest, roundZ-exact}
+use Rattle.theory.proofs.Integers.{above, below, sum-parts, parts-eq, neg-above, neg-below, negate-signed, size-signed, le-parts, scale-le-parts, parts-scale-le}
+use Rattle.theory.proofs.Signed.{downward-le, downward-greatest}
 use Rattle.theory.proofs.Tests.{never}
 use Rattle.format.specs.declared.Scale.{Scale}
 use Rattle.format.specs.declared.Direction.{Direction}
@@ -24,7 +26,7 @@ use Rattle.format.specs.declared.Direction.the-variants.{Downward}
 use Rattle.format.specs.declared.Prepared.{Prepared}
 use Rattle.format.specs.Formats.{Scaled, scaleOf, preparedOf}
 use Rattle.format.specs.Published.{binary32}
-use Rattle.format.proofs.Signed.{Upto, Under, apart, le-true, le-false}
+use Rattle.format.proofs.Signed.{Upto, Under, le-true, le-false, make-lt, make-ge}
 use Rattle.format.proofs.Formats.{positional, scaled}
 use Rattle.wide.specs.declared.Wide.{Wide}
 use Rattle.wide.specs.Operand.{Operand, sizeOf, valueOf}
@@ -96,6 +98,9 @@ module _ (N w : ℤ) (h : WideZ 2 24 w) where
   reaches-down : Upto w (roundZ 2 24 downward N 1) → Upto w N
   reaches-down l = omega (arith, scale-le-parts (roundZ 2 24 downward N 1) 1 (downward-le binary-24 (omega arith) N))
 
+turned-value : (x : Wide) → valueOf 2 (turned x) ≡ negℤ (valueOf 2 x)
+turned-value x = sym (negate-signed (x .negative) (sizeOf 2 x))
+
 -- ---- is a + b at least c?
 module _ (a b c : Wide) {k : ℕ} (h : Placed k c) where
   abbrev low : Wide
@@ -104,17 +109,14 @@ module _ (a b c : Wide) {k : ℕ} (h : Placed k c) where
   abbrev rest : Wide
   rest = summed 2 24 Downward low (turned c)
 
-  turned-value : valueOf 2 (turned c) ≡ negℤ (valueOf 2 c)
-  turned-value = sym (negate-signed (c .negative) (sizeOf 2 c))
-
   -- a + b rounded down, less c
   difference : Upto (valueOf 2 c) (valueOf 2 low) → Upto (pos 0) (valueOf 2 low +ℤ valueOf 2 (turned c))
   difference l =
-      omega (arith, sum-parts (valueOf 2 low) (valueOf 2 (turned c)), ap above turned-value, ap below turned-value, neg-above (valueOf 2 c), neg-below (valueOf 2 c))
+      omega (arith, sum-parts (valueOf 2 low) (valueOf 2 (turned c)), ap above (turned-value c), ap below (turned-value c), neg-above (valueOf 2 c), neg-below (valueOf 2 c))
 
   difference-back : Upto (pos 0) (valueOf 2 low +ℤ valueOf 2 (turned c)) → Upto (valueOf 2 c) (valueOf 2 low)
   difference-back l =
-      omega (arith, sum-parts (valueOf 2 low) (valueOf 2 (turned c)), ap above turned-value, ap below turned-value, neg-above (valueOf 2 c), neg-below (valueOf 2 c))
+      omega (arith, sum-parts (valueOf 2 low) (valueOf 2 (turned c)), ap above (turned-value c), ap below (turned-value c), neg-above (valueOf 2 c), neg-below (valueOf 2 c))
 
   abbrev total : ℤ
   total = valueOf 2 a +ℤ valueOf 2 b
@@ -139,14 +141,36 @@ module _ (a b c : Wide) {k : ℕ} (h : Placed k c) where
       by false true e f = refl
       by false false e f = absurd (omega (arith, back (down-plus low (turned c) e), le-false (valueOf 2 c) total f))
 
--- ---- 2 x is in the format
-twice-size : (v : ℤ) → natAbs (v +ℤ v) ≡ 2 * natAbs v
-twice-size v = omega (arith, size-parts (v +ℤ v), size-parts v, sum-parts v v, apart v, apart (v +ℤ v))
+-- ---- 2 x is in the format: of a significand that is not full it has the double, else the next place
+signed-twice : (s : Bool) (n : ℕ) → signed s (n + n) ≡ signed s n +ℤ signed s n
+signed-twice false n = parts-eq (pos (n + n)) (pos n +ℤ pos n) (omega (arith, sum-parts (pos n) (pos n)))
+signed-twice true n =
+    parts-eq (negℤ (pos (n + n))) (negℤ (pos n) +ℤ negℤ (pos n))
+    (omega (arith, sum-parts (negℤ (pos n)) (negℤ (pos n)), neg-above (pos (n + n)), neg-below (pos (n + n)), neg-above (pos n), neg-below (pos n)))
 
-pub twice-value : {k : ℕ} (x : Wide) → Placed k x → valueOf 2 (summed 2 24 Downward x x) ≡ valueOf 2 x +ℤ valueOf 2 x
-twice-value x h =
-    down-value x x
-    ∙ roundZ-exact binary-24 downward (valueOf 2 x +ℤ valueOf 2 x) (rw (twice-size (valueOf 2 x)) (wide-shift binary-24 (value-wide h)))
+module _ (x : Wide) (h : Placed 253 x) where
+  pub twice-small : x .significand < 2 ^ 23 → Holds 254 (valueOf 2 x +ℤ valueOf 2 x) (record { negative = x .negative; significand = x .significand * 2; place = x .place })
+  twice-small l =
+      record {
+        placed = record { canonical = record { small = omega arith; full = inl lowest }; place-most = omega (arith, h .place-most) };
+        value = ap (signed (x .negative)) twice ∙ signed-twice (x .negative) (sizeOf 2 x);
+      }
+    where
+      lowest : x .place ≡ 0
+      lowest = ⊎-elim (λ e. e) (λ g. absurd (omega (arith, g, l))) (h .canonical .full)
+
+      twice : x .significand * 2 * 2 ^ x .place ≡ sizeOf 2 x + sizeOf 2 x
+      twice = omega arith
+
+  pub twice-full : 2 ^ 23 ≤ x .significand → Holds 254 (valueOf 2 x +ℤ valueOf 2 x) (record { negative = x .negative; significand = x .significand; place = x .place + 1 })
+  twice-full l =
+      record {
+        placed = record { canonical = record { small = h .canonical .small; full = inr (omega arith) }; place-most = omega (arith, h .place-most) };
+        value = ap (signed (x .negative)) twice ∙ signed-twice (x .negative) (sizeOf 2 x);
+      }
+    where
+      twice : x .significand * 2 ^ (x .place + 1) ≡ sizeOf 2 x + sizeOf 2 x
+      twice = rw (add-one, pow-suc) (omega arith)
 
 -- ---- the number of a pattern
 pub pattern-member : (n : ℕ) → finite n ≡ true → {x : Number} → x ≡ numberRead n → member binary32 x ≡ true
@@ -164,14 +188,11 @@ pattern-holds n h {q} e {x} f {w} g = rw (g, e, f) (record { placed = there; val
     there = record { canonical = member-canonical binary32-limits inside; place-most = member-highest binary32-limits inside }
 
 -- ---- what the code hands on
-pub twice-holds : (x : Wide) → Placed 253 x → {r : Wide} → r ≡ summed 2 24 Downward x x → Holds 254 (valueOf 2 x +ℤ valueOf 2 x) r
-twice-holds x h e = rw e (record { placed = down-placed x x h h; value = twice-value x h })
-
 pub low-placed : (a b : Wide) → Placed 260 a → Placed 260 b → {r : Wide} → r ≡ summed 2 24 Downward a b → Placed 300 r
 low-placed a b h g e = rw e (placed-more 300 (omega arith) (down-placed a b h g))
 
-pub turned-placed : {c m : Wide} → Placed 260 c → m ≡ turned c → Placed 300 m
-turned-placed h e = rw e (record { canonical = h .canonical; place-most = omega (arith, h .place-most) })
+pub turned-placed : {k : ℕ} {c m : Wide} (n : ℕ) → k ≤ n → Placed k c → m ≡ turned c → Placed n m
+turned-placed n l h e = rw e (record { canonical = h .canonical; place-most = omega (arith, h .place-most) })
 
 pub reached : (a b c : Wide) → Placed 260 c → {l m r : Wide} → l ≡ summed 2 24 Downward a b → m ≡ turned c → r ≡ summed 2 24 Downward l m
     → not (r .negative) ≡ leZ (valueOf 2 c) (valueOf 2 a +ℤ valueOf 2 b)
@@ -179,3 +200,37 @@ reached a b c h e f g = rw (g, e, f) (reaches-exactly a b c h)
 
 pub sums-compared : {u v w u′ v′ w′ : ℤ} → u ≡ u′ → v ≡ v′ → w ≡ w′ → leZ w (u +ℤ v) ≡ leZ w′ (u′ +ℤ v′)
 sums-compared e f g = rw (e, f, g)
+
+-- ---- a + b is above c exactly where -a - b does not reach -c
+turned-above : (x : Wide) → above (valueOf 2 (turned x)) ≡ below (valueOf 2 x)
+turned-above x = ap above (turned-value x) ∙ neg-above (valueOf 2 x)
+
+turned-below : (x : Wide) → below (valueOf 2 (turned x)) ≡ above (valueOf 2 x)
+turned-below x = ap below (turned-value x) ∙ neg-below (valueOf 2 x)
+
+module _ (a b c : Wide) where
+  abbrev missed : Bool
+  missed = leZ (valueOf 2 (turned c)) (valueOf 2 (turned a) +ℤ valueOf 2 (turned b))
+
+  exceeds-exactly : not missed ≡ ltZ (valueOf 2 c) (valueOf 2 a +ℤ valueOf 2 b)
+  exceeds-exactly = by missed refl
+    where
+      sides : (above (valueOf 2 (turned a)) ≡ below (valueOf 2 a)) × (below (valueOf 2 (turned a)) ≡ above (valueOf 2 a))
+          × (above (valueOf 2 (turned b)) ≡ below (valueOf 2 b)) × (below (valueOf 2 (turned b)) ≡ above (valueOf 2 b))
+          × (above (valueOf 2 (turned c)) ≡ below (valueOf 2 c)) × (below (valueOf 2 (turned c)) ≡ above (valueOf 2 c))
+      sides = (turned-above a, turned-below a, turned-above b, turned-below b, turned-above c, turned-below c)
+
+      by : (s : Bool) → missed ≡ s → not s ≡ ltZ (valueOf 2 c) (valueOf 2 a +ℤ valueOf 2 b)
+      by true k =
+          sym (make-ge (valueOf 2 c) (valueOf 2 a +ℤ valueOf 2 b)
+          (omega (arith, le-true (valueOf 2 (turned c)) (valueOf 2 (turned a) +ℤ valueOf 2 (turned b)) k, sum-parts (valueOf 2 a) (valueOf 2 b), sum-parts (valueOf 2 (turned a)) (valueOf 2 (turned b)), sides)))
+      by false k =
+          sym (make-lt (valueOf 2 c) (valueOf 2 a +ℤ valueOf 2 b)
+          (omega (arith, le-false (valueOf 2 (turned c)) (valueOf 2 (turned a) +ℤ valueOf 2 (turned b)) k, sum-parts (valueOf 2 a) (valueOf 2 b), sum-parts (valueOf 2 (turned a)) (valueOf 2 (turned b)), sides)))
+
+  pub exceeded : {l m n : Wide} {t : Bool} → l ≡ turned a → m ≡ turned b → n ≡ turned c → t ≡ leZ (valueOf 2 n) (valueOf 2 l +ℤ valueOf 2 m)
+      → not t ≡ ltZ (valueOf 2 c) (valueOf 2 a +ℤ valueOf 2 b)
+  exceeded e f g h = ap not (rw (e, f, g) at h) ∙ exceeds-exactly
+
+pub sums-exceeded : {u v w u′ v′ w′ : ℤ} → u ≡ u′ → v ≡ v′ → w ≡ w′ → ltZ w (u +ℤ v) ≡ ltZ w′ (u′ +ℤ v′)
+sums-exceeded e f g = rw (e, f, g)

@@ -9,7 +9,7 @@ use wide::Wide;
 ghost use mathlib.Core.Path.{_≡_};
 ghost use mathlib.Core.Bool.{true};
 ghost use lib.IntN.{_+ℤ_};
-ghost use lib.Signed.{leZ};
+ghost use lib.Signed.{leZ, ltZ};
 ghost use Rattle.format.specs.declared.Direction.the-variants.{Downward};
 ghost use Rattle.format.specs.Formats.{scaleOf};
 ghost use Rattle.format.specs.Published.{binary32};
@@ -51,7 +51,19 @@ fn doubled(x: Wide) -> Wide
     requires { ⌜ Placed 253 x ⌝ }
     ensures { λ r. ⌜ Holds 254 (valueOf 2 x +ℤ valueOf 2 x) r ⌝ }
 {
-    sum_down(x, x)
+    let significand = x.significand;
+    if significand < 8388608 {
+        return Wide {
+            negative: x.negative,
+            significand: significand * 2,
+            place: x.place,
+        };
+    }
+    Wide {
+        negative: x.negative,
+        significand: significand,
+        place: x.place + 1,
+    }
 }
 
 // -x; a zero turns its sign too.
@@ -74,6 +86,14 @@ pub fn sum_reaches(a: Wide, b: Wide, c: Wide) -> bool
     !rest.negative
 }
 
+// Is a + b above c? Exactly where -a - b is not at least -c.
+fn sum_exceeds(a: Wide, b: Wide, c: Wide) -> bool
+    requires { ⌜ Placed 260 a × Placed 260 b × Placed 260 c ⌝ }
+    ensures { λ r. ⌜ r ≡ ltZ (valueOf 2 c) (valueOf 2 a +ℤ valueOf 2 b) ⌝ }
+{
+    !sum_reaches(negated(a), negated(b), negated(c))
+}
+
 // Is a + b at least c? All are finite patterns.
 pub fn reaches(a: u32, b: u32, c: u32) -> bool
     requires { ⌜ (finite a ≡ true) × (finite b ≡ true) × (finite c ≡ true) ⌝ }
@@ -88,4 +108,12 @@ pub fn reaches_twice(a: u32, b: u32, c: u32) -> bool
     ensures { λ r. ⌜ r ≡ leZ (patternValue c +ℤ patternValue c) (patternValue a +ℤ patternValue b) ⌝ }
 {
     sum_reaches(read_wide(a), read_wide(b), doubled(read_wide(c)))
+}
+
+// Is a + b above 2 * c? All are finite patterns.
+pub fn exceeds_twice(a: u32, b: u32, c: u32) -> bool
+    requires { ⌜ (finite a ≡ true) × (finite b ≡ true) × (finite c ≡ true) ⌝ }
+    ensures { λ r. ⌜ r ≡ ltZ (patternValue c +ℤ patternValue c) (patternValue a +ℤ patternValue b) ⌝ }
+{
+    sum_exceeds(read_wide(a), read_wide(b), doubled(read_wide(c)))
 }

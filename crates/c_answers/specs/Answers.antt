@@ -7,6 +7,7 @@ use Rattle.format.specs.declared.Verdict.{Verdict}
 use Rattle.format.specs.declared.Verdict.the-variants as verdict
 use Rattle.format.specs.declared.FormatAnswer.{FormatAnswer}
 use Rattle.format.specs.declared.FormatAnswer.the-variants as format
+use Rattle.format.specs.Given.{Given, gives, refused, refusedAt}
 use Rattle.format.specs.Refusals.{refusalNumber}
 use Rattle.number.specs.declared.Number.{Number}
 use Rattle.number.specs.declared.Answer.{Answer}
@@ -27,6 +28,7 @@ use Rattle.c_answers.specs.declared.PublishedAnswer.{PublishedAnswer}
 use Rattle.c_answers.specs.declared.TripleAnswer.{TripleAnswer}
 use Rattle.c_answers.specs.declared.CheckAnswer.{CheckAnswer}
 use Rattle.c_answers.specs.declared.SlicesAnswer.{SlicesAnswer}
+use Rattle.c_answers.specs.declared.PositionAnswer.{PositionAnswer}
 
 abbrev pub noNumber : Number
 noNumber = record { negative = false; significand = 0; exponent = pos 0 }
@@ -70,3 +72,9 @@ abbrev pub slicesOut : SliceAnswer → SlicesAnswer
 slicesOut slices.Done = record { refusal = 0; index = 0 }
 slicesOut (slices.Refused why) = record { refusal = refusalNumber why; index = 0 }
 slicesOut (slices.RefusedAt why index) = record { refusal = refusalNumber why; index = index }
+
+-- a position, and an index where the refusal has one
+abbrev pub positionOut : Given ℕ → PositionAnswer
+positionOut (gives n) = record { refusal = 0; position = n; indexed = 0; index = 0 }
+positionOut (refused number) = record { refusal = number; position = 0; indexed = 0; index = 0 }
+positionOut (refusedAt number index) = record { refusal = number; position = 0; indexed = 1; index = index }

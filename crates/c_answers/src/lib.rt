@@ -12,8 +12,10 @@ use format::refusals::refusal_number;
 use number::Answer;
 use number::Number;
 use number::Ordered;
+use saved_lines::LineAnswer;
 ghost use mathlib.Core.Path.{_≡_};
-ghost use Rattle.c_answers.specs.Answers.{verdictOut, numberOut, orderOut, publishedOut, stepsOut, checkOut, patternOut, slicesOut};
+ghost use Rattle.c_answers.specs.Answers.{verdictOut, numberOut, orderOut, publishedOut, stepsOut, checkOut, patternOut, slicesOut, positionOut};
+ghost use Rattle.saved_lines.specs.Lines.{given};
 
 #[repr(C)]
 pub struct NumberAnswer {
@@ -52,6 +54,15 @@ pub struct CheckAnswer {
 pub struct SlicesAnswer {
     pub refusal: u32,
     pub index: u64,
+}
+
+// A position; where `indexed` is 1, `index` is that of the first refused entry.
+#[repr(C)]
+pub struct PositionAnswer {
+    pub refusal: u32,
+    pub position: u32,
+    pub indexed: u32,
+    pub index: u32,
 }
 
 pub fn verdict_out(verdict: Verdict) -> u32
@@ -204,6 +215,31 @@ pub fn slices_out(answer: SliceAnswer) -> SlicesAnswer
         SliceAnswer::RefusedAt(why, index) => SlicesAnswer {
             refusal: refusal_number(why),
             index: index as u64,
+        },
+    }
+}
+
+pub fn position_out(answer: LineAnswer) -> PositionAnswer
+    ensures { λ r. ⌜ r ≡ positionOut (given answer) ⌝ }
+{
+    match answer {
+        LineAnswer::Found(position) => PositionAnswer {
+            refusal: 0,
+            position: position,
+            indexed: 0,
+            index: 0,
+        },
+        LineAnswer::Refused(why) => PositionAnswer {
+            refusal: refusal_number(why),
+            position: 0,
+            indexed: 0,
+            index: 0,
+        },
+        LineAnswer::RefusedAt(why, index) => PositionAnswer {
+            refusal: refusal_number(why),
+            position: 0,
+            indexed: 1,
+            index: index,
         },
     }
 }

@@ -1,7 +1,7 @@
--- Document 01's refusals and their numbers.
+-- The papers' refusals and their numbers: 1 to 11 of document 01, the others of document 02.
 use Prim.Native.Nat.{ℕ}
 use Rattle.format.specs.declared.Refusal.{Refusal}
-use Rattle.format.specs.declared.Refusal.the-variants.{FormatNotAdmitted, NoSuchDirection, NumberNotInFormat, DivisorZero, TooLarge, NotBinary, SmallerFirst, PremiseFails, NotFinite, NoSuchFormat, LengthsDiffer}
+use Rattle.format.specs.declared.Refusal.the-variants.{FormatNotAdmitted, NoSuchDirection, NumberNotInFormat, DivisorZero, TooLarge, NotBinary, SmallerFirst, PremiseFails, NotFinite, NoSuchFormat, LengthsDiffer, ListLength, ListDescends}
 
 -- what is returned: the number in the table of refusals
 abbrev pub refusalNumber : Refusal → ℕ
@@ -16,3 +16,5 @@ refusalNumber PremiseFails = 8
 refusalNumber NotFinite = 9
 refusalNumber NoSuchFormat = 10
 refusalNumber LengthsDiffer = 11
+refusalNumber ListLength = 12
+refusalNumber ListDescends = 13

@@ -17,7 +17,7 @@ pub struct Format {
     pub emax: i32,
 }
 
-// Why a call is refused, in the order of document 01's numbers 1 to 11.
+// Why a call is refused, in the order of the papers' numbers, from 1 on.
 pub enum Refusal {
     FormatNotAdmitted,
     NoSuchDirection,
@@ -30,6 +30,8 @@ pub enum Refusal {
     NotFinite,
     NoSuchFormat,
     LengthsDiffer,
+    ListLength,
+    ListDescends,
 }
 
 // The five directions, in the order of their numbers 0 to 4.

@@ -3,7 +3,7 @@ use crate::Refusal;
 ghost use mathlib.Core.Path.{_≡_};
 ghost use Rattle.format.specs.Refusals.{refusalNumber};
 
-// The number that document 01 gives to a refusal.
+// The number that the papers give to a refusal.
 pub fn refusal_number(refusal: Refusal) -> u32
     ensures { λ r. ⌜ r ≡ refusalNumber refusal ⌝ }
 {
@@ -19,5 +19,7 @@ pub fn refusal_number(refusal: Refusal) -> u32
         Refusal::NotFinite => 9,
         Refusal::NoSuchFormat => 10,
         Refusal::LengthsDiffer => 11,
+        Refusal::ListLength => 12,
+        Refusal::ListDescends => 13,
     }
 }

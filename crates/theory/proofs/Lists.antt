@@ -8,7 +8,7 @@ use mathlib.Core.List.{List, [], _∷_}
 use native.Mathlib.Omega.{arith}
 use native.Mathlib.Decide.{decLe}
 use lib.ListN.{length, getD}
-use borrow.Author.Tests.{leb-true}
+use borrow.Author.Tests.{leb-true, le-leb}
 use Rattle.theory.specs.Tests.{_and_, _or_}
 use Rattle.theory.proofs.Tests.{never, and-left, and-right, and-made}
 use Rattle.theory.specs.Lists.{all, firstWhere, none, someNeighbours}
@@ -90,6 +90,10 @@ module _ {A : Type 0} (test : A → Bool) (d : A) where
   pub none-at : (xs : List A) → none test xs ≡ true → (k : ℕ) → k < length xs → test (getD xs k d) ≡ false
   unfolding none
   none-at xs h k l = first-before xs k (omega (arith, leb-true (length xs) (firstWhere test xs) h))
+
+  pub none-made : (xs : List A) → ((k : ℕ) → k < length xs → test (getD xs k d) ≡ false) → none test xs ≡ true
+  unfolding none
+  none-made xs b = le-leb (length xs) (firstWhere test xs) (omega (arith, first-none xs b))
 
 -- ---- neighbours
 module _ {A : Type 0} (test : A → A → Bool) (d : A) where

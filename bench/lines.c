@@ -1,0 +1,61 @@
+#include "lines.h"
+
+#include <stdio.h>
+
+#include "timing.h"
+#include "zurkeb.h"
+
+enum { LINES = 4096, QUERIES = 64 };
+
+/* A list that rises, the same list with its last two lines exchanged, which the last check refuses, and queries between the lines. */
+static uint32_t rising[LINES], falling[LINES], queries[QUERIES];
+
+static uint64_t random_state = 88172645463325252u;
+static uint32_t random_word(void) {
+    random_state ^= random_state << 13;
+    random_state ^= random_state >> 7;
+    random_state ^= random_state << 17;
+    return (uint32_t)(random_state >> 16);
+}
+
+/* Lines a little apart, from 1 on. */
+static void draw_lines(void) {
+    uint32_t pattern = 0x3f800000;
+    for (int i = 0; i < LINES; i++) {
+        pattern += 1 + random_word() % 4096;
+        rising[i] = falling[i] = pattern;
+    }
+    falling[LINES - 2] = rising[LINES - 1];
+    falling[LINES - 1] = rising[LINES - 2];
+    for (int i = 0; i < QUERIES; i++)
+        queries[i] = rising[random_word() % LINES] + random_word() % 2048;
+}
+
+typedef struct list {
+    const uint32_t *offsets;
+    size_t length;
+} list;
+
+static uint64_t nearest_pass(const void *what) {
+    const list *l = what;
+    uint64_t used = 0;
+    for (int i = 0; i < QUERIES; i++) {
+        zurkeb_position_answer r = zurkeb_nearest_line(l->offsets, l->length, queries[i]);
+        used ^= (uint64_t)r.refusal << 32 ^ r.position;
+    }
+    return used;
+}
+
+void time_lines(void) {
+    draw_lines();
+    const list full = {rising, LINES}, two = {rising, 2}, refused = {falling, LINES};
+    const char *const names[] = {"nearest_line, 4,096 lines", "nearest_line, 2 lines", "the checks of 4,096 lines"};
+    const work works[] = {{nearest_pass, &full}, {nearest_pass, &two}, {nearest_pass, &refused}};
+    enum { count = sizeof works / sizeof *works };
+    timed t[count];
+    time_works(works, t, count, QUERIES);
+    printf("\n| saved lines | ns | median |\n|---|---|---|\n");
+    for (int w = 0; w < count; w++)
+        printf("| %s | %.1f | %.1f |\n", names[w], t[w].best, t[w].median);
+    printf("\nthe checks, a line: %.2f ns\n", t[2].best / LINES);
+}

@@ -1,0 +1,145 @@
+-- What the calls answer, in the words of request 2.
+use Prim.Native.Nat.{ℕ, suc, _≤_, _<_, _^_}
+use mathlib.Core.Path.{_≡_, refl, sym, _∙_}
+use mathlib.Core.Bool.{Bool, true, false, not}
+use mathlib.Core.List.{List}
+use mathlib.Core.Logic.{_⊎_, inl, inr}
+use native.Mathlib.Decide.{decLe}
+use native.Mathlib.Omega.{arith}
+use lib.Dec.{leb}
+use lib.IntN.{ℤ, pos}
+use lib.ListN.{length, getD}
+use lib.Signed.{_≤ℤ_, _<ℤ_}
+use borrow.Author.Tests.{leb-true, leb-false, le-leb}
+use Rattle.theory.specs.Lists.{firstWhere, none}
+use Rattle.theory.specs.Tests.{_and_, unless}
+use Rattle.theory.proofs.Integers.{parts-lt}
+use Rattle.theory.proofs.Lists.{first-before, first-passes, Neighbours, some-neighbours}
+use Rattle.theory.proofs.Tests.{never, and-left, and-right, and-made}
+use Rattle.format.specs.Given.{Given, gives, refused, refusedAt, _then_}
+use Rattle.format.proofs.Signed.{lt-true}
+use Rattle.binary32.specs.Patterns.{finite, notFinite, patternValue, patternValues}
+use Rattle.binary32.proofs.PatternValues.{finite-made, finite-fails, all-finite, value-at, values-length}
+use Rattle.saved_lines.specs.Offsets.{distance, nearest, falls, descends}
+use Rattle.saved_lines.specs.Lines.{passed, patternsChecked, orderChecked, linesChecked, Checked, nearestLine}
+use Rattle.saved_lines.proofs.NearestLaws.{at, nearest-position, nearest-least, equal-first, smaller-wins, descends-made}
+
+-- the offset at a position of a list of patterns
+abbrev pub offset : List ℕ → ℕ → ℤ
+offset l k = patternValue (getD l k 0)
+
+-- how far it is from the query
+abbrev pub away : List ℕ → (q k : ℕ) → ℕ
+away l q k = distance (offset l k) (patternValue q)
+
+-- ---- n is the line nearest to the query q
+pub record Nearest (l : List ℕ) (q n : ℕ) : Type 0 where
+  pub position : n < length l
+  pub none-nearer : (k : ℕ) → k < length l → away l q n ≤ away l q k
+  pub smaller-wins : (k : ℕ) → k < length l → away l q k ≡ away l q n → offset l n ≤ℤ offset l k
+  pub first-wins : (k : ℕ) → offset l k ≡ offset l n → n ≤ k
+
+pub nearest-is-nearest : (l : List ℕ) (q : ℕ) → Checked l → Nearest l q (nearest (patternValues l) (patternValue q))
+nearest-is-nearest l q c =
+    record {
+      position = omega (arith, nearest-position vs v some, values-length l);
+      none-nearer = λ k h. rw (← value-at l n, ← value-at l k) (nearest-least vs v some k (omega (arith, values-length l)));
+      smaller-wins = λ k h e.
+          rw (← value-at l n, ← value-at l k)
+          (smaller-wins vs v (c .order) k (omega (arith, values-length l)) (rw (← value-at l n, ← value-at l k) at e));
+      first-wins = λ k e. equal-first vs v some k (value-at l k ∙ e ∙ sym (value-at l n));
+    }
+  where
+    vs : List ℤ
+    vs = patternValues l
+
+    v : ℤ
+    v = patternValue q
+
+    n : ℕ
+    n = nearest (patternValues l) (patternValue q)
+
+    some : 1 ≤ length (patternValues l)
+    some = omega (arith, values-length l, c .some)
+
+-- it fits 32 bits
+pub nearest-small : (l : List ℕ) (q : ℕ) → Checked l → {n : ℕ} → n ≡ nearest (patternValues l) (patternValue q) → n < 2 ^ 32
+nearest-small l q c e = omega (arith, nearest-is-nearest l q c .position, c .most)
+
+-- ---- the ends of a call, each with what holds where it comes and no earlier one does
+pub record Allowed (l : List ℕ) : Type 0 where
+  pub some : 1 ≤ length l
+  pub most : length l ≤ 4096
+
+abbrev pub AllFinite : List ℕ → (n : ℕ) → Type 0
+AllFinite l n = (k : ℕ) → k < n → finite (getD l k 0) ≡ true
+
+pub record Descent (l : List ℕ) : Type 0 where
+  pub place : ℕ
+  pub inside : suc place < length l
+  pub falls : offset l (suc place) <ℤ offset l place
+
+pub data Ends (l : List ℕ) (q : ℕ) : Given ℕ → Type 0 where
+  wrong-length : (length l ≡ 0) ⊎ (4096 < length l) → Ends l q (refused 12)
+  bad-pattern : {n : ℕ} → Allowed l → n < length l → finite (getD l n 0) ≡ false → AllFinite l n → Ends l q (refusedAt 9 n)
+  bad-query : Allowed l → AllFinite l (length l) → finite q ≡ false → Ends l q (refused 9)
+  descending : Allowed l → AllFinite l (length l) → finite q ≡ true → Descent l → Ends l q (refused 13)
+  found : {n : ℕ} → Checked l → finite q ≡ true → Nearest l q n → Ends l q (gives n)
+
+module _ (l : List ℕ) where
+  wrong : leb 1 (length l) and leb (length l) 4096 ≡ false → (length l ≡ 0) ⊎ (4096 < length l)
+  wrong h = by (decLe 1 (length l)) (decLe (length l) 4096)
+    where
+      by : Dec (1 ≤ length l) → Dec (length l ≤ 4096) → (length l ≡ 0) ⊎ (4096 < length l)
+      by (no a) b = inl (omega arith)
+      by (yes a) (no b) = inr (omega arith)
+      by (yes a) (yes b) = absurd (never (sym (and-made (le-leb 1 (length l) a) (le-leb (length l) 4096 b)) ∙ h))
+
+  allowed : leb 1 (length l) and leb (length l) 4096 ≡ true → Allowed l
+  allowed h = record { some = leb-true 1 (length l) (and-left _ _ h); most = leb-true (length l) 4096 (and-right _ _ h) }
+
+  finite-before : AllFinite l (firstWhere notFinite l)
+  finite-before k h = finite-made (getD l k 0) (first-before notFinite 0 l k h)
+
+  bad-there : none notFinite l ≡ false → firstWhere notFinite l < length l
+  unfolding none
+  bad-there h = leb-false (length l) (firstWhere notFinite l) h
+
+  bad-first : none notFinite l ≡ false → finite (getD l (firstWhere notFinite l) 0) ≡ false
+  bad-first h = finite-fails (getD l (firstWhere notFinite l) 0) (first-passes notFinite 0 l (bad-there h))
+
+  -- 13 exactly where some offset is above the next
+  pub descent : descends (patternValues l) ≡ true → Descent l
+  unfolding descends falls
+  descent h = by (some-neighbours falls (pos 0) (patternValues l) h)
+    where
+      by : Neighbours falls (pos 0) (patternValues l) → Descent l
+      by n =
+          record {
+            place = n .place;
+            inside = omega (arith, n .inside, values-length l);
+            falls =
+                rw (← value-at l (suc (n .place)), ← value-at l (n .place))
+                (parts-lt (at (patternValues l) (suc (n .place))) (at (patternValues l) (n .place)) (lt-true (at (patternValues l) (suc (n .place))) (at (patternValues l) (n .place)) (n .passes)));
+          }
+
+  pub descent-descends : Descent l → descends (patternValues l) ≡ true
+  descent-descends d =
+      descends-made (patternValues l) (d .place) (omega (arith, d .inside, values-length l)) (rw (value-at l (suc (d .place)), value-at l (d .place)) (d .falls))
+
+-- every call ends in one of these ways
+pub nearest-ends : (l : List ℕ) (q : ℕ) → Ends l q (nearestLine l q)
+unfolding nearestLine linesChecked patternsChecked orderChecked unless
+nearest-ends l q = by (leb 1 (length l) and leb (length l) 4096) (none notFinite l) (finite q) (descends (patternValues l)) refl refl refl refl
+  where
+    by : (a b c d : Bool) → leb 1 (length l) and leb (length l) 4096 ≡ a → none notFinite l ≡ b → finite q ≡ c → descends (patternValues l) ≡ d
+        → Ends l q
+        (unless a (refused 12) (unless b (refusedAt 9 (firstWhere notFinite l)) (unless c (refused 9) (unless (not d) (refused 13) passed)))
+        then (λ _. gives (nearest (patternValues l) (patternValue q))))
+    by false b c d e f g h = wrong-length (wrong l e)
+    by true false c d e f g h = bad-pattern (allowed l e) (bad-there l f) (bad-first l f) (finite-before l)
+    by true true false d e f g h = bad-query (allowed l e) (all-finite l f) g
+    by true true true true e f g h = descending (allowed l e) (all-finite l f) g (descent l h)
+    by true true true false e f g h =
+        let c : Checked l = record { some = allowed l e .some; most = allowed l e .most; finite = f; order = h } in
+        found c g (nearest-is-nearest l q c)

@@ -1,0 +1,68 @@
+-- Exact distances from a query: on natural numbers, and by the sum of two numbers against twice the query.
+use Prim.Native.Nat.{ℕ, _+_, _≤_, _<_}
+use mathlib.Core.Path.{_≡_, sym, ap, _∙_}
+use mathlib.Core.Bool.{Bool, true, false, not}
+use native.Mathlib.Omega.{arith}
+use lib.Dec.{ltb}
+use lib.IntN.{ℤ, _+ℤ_, _-ℤ_}
+use lib.Signed.{leZ, ltZ}
+use borrow.Author.Tests.{ltb-true, ltb-false, lt-ltb, le-ltb, not-true, not-false}
+use Rattle.theory.proofs.Integers.{above, below, sum-parts, diff-parts, size-by, parts-eq}
+use Rattle.theory.proofs.Multiples.{dist}
+use Rattle.format.proofs.Signed.{Upto, Under, le-true, le-false, lt-true, lt-false}
+use Rattle.saved_lines.specs.Offsets.{distance, nearer}
+
+-- the distance on natural numbers
+pub distance-is : (v q : ℤ) → distance v q ≡ dist (above v + below q) (below v + above q)
+unfolding distance
+distance-is v q = size-by (v -ℤ q) (above v + below q) (below v + above q) (omega (arith, diff-parts v q))
+
+module _ (q v w : ℤ) where
+  pub nearer-true : nearer q v w ≡ true → distance v q < distance w q
+  unfolding nearer
+  nearer-true h = ltb-true _ _ h
+
+  pub nearer-false : nearer q v w ≡ false → distance w q ≤ distance v q
+  unfolding nearer
+  nearer-false h = ltb-false _ _ h
+
+  pub nearer-made : distance v q < distance w q → nearer q v w ≡ true
+  unfolding nearer
+  nearer-made h = lt-ltb _ _ h
+
+  pub nearer-fails : distance w q ≤ distance v q → nearer q v w ≡ false
+  unfolding nearer
+  nearer-fails h = le-ltb _ _ h
+
+  -- ---- by the sum: the greater is nearer exactly where v + w is below 2 q, the smaller exactly where it is above
+  module _ {b : Bool} where
+    pub greater-nearer : b ≡ ltZ w v → b ≡ true → {t : Bool} → t ≡ leZ (q +ℤ q) (v +ℤ w) → not t ≡ nearer q v w
+    greater-nearer e h {t} f = by t f
+      where
+        apart : Under w v
+        apart = lt-true w v (sym e ∙ h)
+
+        by : (t : Bool) → t ≡ leZ (q +ℤ q) (v +ℤ w) → not t ≡ nearer q v w
+        by true f =
+            sym (nearer-fails (omega (arith, distance-is v q, distance-is w q, apart, le-true (q +ℤ q) (v +ℤ w) (sym f), sum-parts q q, sum-parts v w)))
+        by false f =
+            sym (nearer-made (omega (arith, distance-is v q, distance-is w q, apart, le-false (q +ℤ q) (v +ℤ w) (sym f), sum-parts q q, sum-parts v w)))
+
+    pub smaller-nearer : b ≡ ltZ v w → b ≡ true → {t : Bool} → t ≡ ltZ (q +ℤ q) (v +ℤ w) → t ≡ nearer q v w
+    smaller-nearer e h {t} f = by t f
+      where
+        apart : Under v w
+        apart = lt-true v w (sym e ∙ h)
+
+        by : (t : Bool) → t ≡ ltZ (q +ℤ q) (v +ℤ w) → t ≡ nearer q v w
+        by true f =
+            sym (nearer-made (omega (arith, distance-is v q, distance-is w q, apart, lt-true (q +ℤ q) (v +ℤ w) (sym f), sum-parts q q, sum-parts v w)))
+        by false f =
+            sym (nearer-fails (omega (arith, distance-is v q, distance-is w q, apart, lt-false (q +ℤ q) (v +ℤ w) (sym f), sum-parts q q, sum-parts v w)))
+
+  -- of two equal numbers neither is nearer
+  pub equal-nearer : {a b : Bool} → a ≡ ltZ w v → a ≡ false → b ≡ ltZ v w → b ≡ false → false ≡ nearer q v w
+  equal-nearer e h f g = sym (nearer-fails (omega (arith, ap (λ (u : ℤ). distance u q) same)))
+    where
+      same : v ≡ w
+      same = parts-eq v w (omega (arith, lt-false w v (sym e ∙ h), lt-false v w (sym f ∙ g)))

@@ -1,0 +1,12 @@
+-- Laws of saved lines.
+-- on exact values
+pub mod DistanceLaws
+pub mod NearestLaws
+-- on lists of patterns
+pub mod Offsets
+pub mod Checking
+pub mod Searches
+pub mod Positions
+-- the answers in the requests' words
+pub mod AnswerLaws
+pub mod Examples

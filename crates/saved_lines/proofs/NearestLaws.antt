@@ -1,0 +1,179 @@
+-- The nearest line in the words of request 2: it is a position of the list, no line is nearer, at equal distance the smaller offset
+-- wins, and among equal offsets the first.
+use Prim.Native.Nat.{ℕ, zero, suc, _+_, _-_, _≤_, _<_}
+use mathlib.Core.Path.{_≡_, refl, sym, ap, _∙_}
+use mathlib.Core.Bool.{Bool, true, false}
+use mathlib.Core.List.{List, [], _∷_}
+use mathlib.Core.Logic.{⊎-elim}
+use native.Mathlib.Nat.{eq-or-lt-of-le}
+use native.Mathlib.Omega.{arith}
+use native.Mathlib.Decide.{decLe}
+use lib.IntN.{ℤ, pos}
+use lib.ListN.{length, getD}
+use lib.Signed.{_≤ℤ_, _<ℤ_}
+use Rattle.theory.proofs.Integers.{above, below, parts-le, lt-parts}
+use Rattle.theory.proofs.Lists.{first-is, first-before, first-passes, first-position, none-at, none-made, neighbours-made, neighbours-fail}
+use Rattle.theory.proofs.Tests.{never}
+use Rattle.format.proofs.Signed.{Upto, Under, lt-false, make-lt}
+use Rattle.saved_lines.specs.Offsets.{distance, nearer, isNearest, nearest, falls, descends}
+use Rattle.saved_lines.proofs.DistanceLaws.{distance-is, nearer-false, nearer-fails}
+
+-- the offset at a position
+abbrev pub at : List ℤ → ℕ → ℤ
+at vs k = getD vs k (pos 0)
+
+-- ---- no offset is nearer to q than that at n
+pub record Least (vs : List ℤ) (q : ℤ) (n : ℕ) : Type 0 where
+  pub position : n < length vs
+  pub least : (k : ℕ) → k < length vs → distance (at vs n) q ≤ distance (at vs k) q
+
+record Some (vs : List ℤ) (q : ℤ) : Type 0 where
+  place : ℕ
+  is-least : Least vs q place
+
+some : (v : ℤ) (vs : List ℤ) (q : ℤ) → Some (v ∷ vs) q
+some v [] q =
+    record {
+      place = 0;
+      is-least = record { position = omega arith; least = alone };
+    }
+  where
+    alone : (k : ℕ) → k < 1 → distance v q ≤ distance (at (v ∷ []) k) q
+    alone zero l = omega arith
+    alone (suc k) l = absurd (omega arith)
+some v (w ∷ vs) q = by (some w vs q)
+  where
+    by : Some (w ∷ vs) q → Some (v ∷ w ∷ vs) q
+    by r = pick (decLe (distance v q) (distance (at (w ∷ vs) (r .place)) q))
+      where
+        pick : Dec (distance v q ≤ distance (at (w ∷ vs) (r .place)) q) → Some (v ∷ w ∷ vs) q
+        pick (yes l) = record { place = 0; is-least = record { position = omega arith; least = here } }
+          where
+            here : (k : ℕ) → k < suc (length (w ∷ vs)) → distance v q ≤ distance (at (v ∷ w ∷ vs) k) q
+            here zero m = omega arith
+            here (suc k) m = omega (arith, r .is-least .least k (omega arith))
+        pick (no l) =
+            record { place = suc (r .place); is-least = record { position = omega (arith, r .is-least .position); least = there } }
+          where
+            there : (k : ℕ) → k < suc (length (w ∷ vs)) → distance (at (w ∷ vs) (r .place)) q ≤ distance (at (v ∷ w ∷ vs) k) q
+            there zero m = omega arith
+            there (suc k) m = r .is-least .least k (omega arith)
+
+module _ (vs : List ℤ) (q : ℤ) where
+  least-passes : {n : ℕ} → Least vs q n → isNearest vs q (at vs n) ≡ true
+  unfolding isNearest
+  least-passes {n} h = none-made (λ (w : ℤ). nearer q w (at vs n)) (pos 0) vs (λ k l. nearer-fails q (at vs k) (at vs n) (h .least k l))
+
+  passed-least : (n k : ℕ) → isNearest vs q (at vs n) ≡ true → k < length vs → distance (at vs n) q ≤ distance (at vs k) q
+  unfolding isNearest
+  passed-least n k h l = nearer-false q (at vs k) (at vs n) (none-at (λ (w : ℤ). nearer q w (at vs n)) (pos 0) vs h k l)
+
+  module _ (h : 1 ≤ length vs) where
+    -- it is a position of the list
+    pub nearest-position : nearest vs q < length vs
+    unfolding nearest
+    nearest-position = by vs h refl
+      where
+        by : (us : List ℤ) → 1 ≤ length us → us ≡ vs → nearest vs q < length vs
+        by [] l e = absurd (omega arith)
+        by (u ∷ us) l e = found (rw e at (some u us q))
+          where
+            found : Some vs q → nearest vs q < length vs
+            found r = first-position (isNearest vs q) (pos 0) vs (r .place) (r .is-least .position) (least-passes (r .is-least))
+
+    -- no line is nearer
+    pub nearest-least : (k : ℕ) → k < length vs → distance (at vs (nearest vs q)) q ≤ distance (at vs k) q
+    unfolding nearest
+    nearest-least k l = passed-least (nearest vs q) k (first-passes (isNearest vs q) (pos 0) vs nearest-position) l
+
+    -- every line before it is farther
+    pub nearest-first : (k : ℕ) → k < nearest vs q → distance (at vs (nearest vs q)) q < distance (at vs k) q
+    unfolding nearest
+    nearest-first k l = by (decLe (distance (at vs k) q) (distance (at vs (nearest vs q)) q))
+      where
+        fails : isNearest vs q (at vs k) ≡ false
+        fails = first-before (isNearest vs q) (pos 0) vs k l
+
+        by : Dec (distance (at vs k) q ≤ distance (at vs (nearest vs q)) q) → distance (at vs (nearest vs q)) q < distance (at vs k) q
+        by (yes m) =
+            absurd (never (sym (least-passes {n = k} (record { position = omega (arith, nearest-position); least = λ i b. omega (arith, nearest-least i b) })) ∙ fails))
+        by (no m) = omega arith
+
+    -- among equal offsets the first
+    pub equal-first : (k : ℕ) → at vs k ≡ at vs (nearest vs q) → nearest vs q ≤ k
+    equal-first k e = by (decLe (nearest vs q) k)
+      where
+        by : Dec (nearest vs q ≤ k) → nearest vs q ≤ k
+        by (yes l) = l
+        by (no l) = absurd (omega (arith, nearest-first k (omega arith), ap (λ (v : ℤ). distance v q) e))
+
+  -- and these say which it is
+  pub nearest-is : (n : ℕ) → Least vs q n → ((k : ℕ) → k < n → distance (at vs n) q < distance (at vs k) q) → nearest vs q ≡ n
+  unfolding nearest
+  nearest-is n h b = first-is (isNearest vs q) (pos 0) vs n (h .position) (least-passes h) farther
+    where
+      farther : (k : ℕ) → k < n → isNearest vs q (at vs k) ≡ false
+      farther k l = by (isNearest vs q (at vs k)) refl
+        where
+          by : (t : Bool) → isNearest vs q (at vs k) ≡ t → t ≡ false
+          by true e = absurd (omega (arith, b k l, passed-least k n e (h .position)))
+          by false e = refl
+
+-- ---- lists that ascend
+abbrev pub Ascending : List ℤ → Type 0
+Ascending vs = (j k : ℕ) → j ≤ k → k < length vs → Upto (at vs j) (at vs k)
+
+module _ (vs : List ℤ) where
+  -- 13 exactly where some offset is above the next
+  pub descends-made : (k : ℕ) → suc k < length vs → at vs (suc k) <ℤ at vs k → descends vs ≡ true
+  unfolding descends falls
+  descends-made k h l = neighbours-made falls (pos 0) vs k h (make-lt (at vs (suc k)) (at vs k) (lt-parts l))
+
+  rises : descends vs ≡ false → (k : ℕ) → suc k < length vs → Upto (at vs k) (at vs (suc k))
+  unfolding descends falls
+  rises h k l = lt-false (at vs (suc k)) (at vs k) (neighbours-fail falls (pos 0) vs h k l)
+
+  pub ascends : descends vs ≡ false → Ascending vs
+  ascends h j zero l m = rw (zeros l) (omega arith)
+    where
+      zeros : j ≤ 0 → j ≡ 0
+      zeros l = omega arith
+  ascends h j (suc k) l m = ⊎-elim (λ e. rw e (omega arith)) (λ b. omega (arith, ascends h j k (omega arith) (omega arith), rises h k m)) (eq-or-lt-of-le l)
+
+  -- at equal distance the smaller offset wins
+  pub smaller-wins : (q : ℤ) → descends vs ≡ false → (k : ℕ) → k < length vs → distance (at vs k) q ≡ distance (at vs (nearest vs q)) q
+      → at vs (nearest vs q) ≤ℤ at vs k
+  smaller-wins q h k l e = by (decLe (nearest vs q) k)
+    where
+      by : Dec (nearest vs q ≤ k) → at vs (nearest vs q) ≤ℤ at vs k
+      by (yes m) = parts-le _ _ (ascends h (nearest vs q) k m l)
+      by (no m) = absurd (omega (arith, nearest-first vs q (omega arith) k (omega arith)))
+
+-- ---- which of the two lines beside the query is nearest
+module _ (vs : List ℤ) (q : ℤ) (asc : Ascending vs) (j : ℕ) (low : (k : ℕ) → k < j → Under (at vs k) q)
+    (high : (k : ℕ) → j ≤ k → k < length vs → Upto q (at vs k)) where
+  -- f is the first position of the offset before j, and the offset at j is not nearer
+  pub left-nearest : (f : ℕ) → f < j → j ≤ length vs → at vs f ≡ at vs (j - 1) → ((k : ℕ) → k < f → Under (at vs k) (at vs f))
+      → (j < length vs → distance (at vs f) q ≤ distance (at vs j) q) → nearest vs q ≡ f
+  left-nearest f l m e b t =
+      nearest-is vs q f
+      (record { position = omega arith; least = λ k h. beside k h (decLe j k) })
+      (λ k h. omega (arith, distance-is (at vs f) q, distance-is (at vs k) q, b k h, low f l))
+    where
+      beside : (k : ℕ) → k < length vs → Dec (j ≤ k) → distance (at vs f) q ≤ distance (at vs k) q
+      beside k h (yes g) = omega (arith, t (omega arith), distance-is (at vs j) q, distance-is (at vs k) q, high j (omega arith) (omega arith), asc j k g h)
+      beside k h (no g) =
+          omega (arith, distance-is (at vs f) q, distance-is (at vs k) q, low f l, rw (← e) at (asc k (j - 1) (omega arith) (omega arith)))
+
+  -- the offset before j, if there is one, is farther
+  pub right-nearest : j < length vs → (0 < j → distance (at vs j) q < distance (at vs (j - 1)) q) → nearest vs q ≡ j
+  right-nearest m t =
+      nearest-is vs q j (record { position = m; least = λ k h. beside k h (decLe j k) }) before
+    where
+      before : (k : ℕ) → k < j → distance (at vs j) q < distance (at vs k) q
+      before k h =
+          omega (arith, t (omega arith), distance-is (at vs (j - 1)) q, distance-is (at vs k) q, low (j - 1) (omega arith), asc k (j - 1) (omega arith) (omega arith))
+
+      beside : (k : ℕ) → k < length vs → Dec (j ≤ k) → distance (at vs j) q ≤ distance (at vs k) q
+      beside k h (yes g) = omega (arith, distance-is (at vs j) q, distance-is (at vs k) q, high j (omega arith) m, asc j k g h)
+      beside k h (no g) = omega (arith, before k (omega arith))

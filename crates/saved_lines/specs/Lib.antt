@@ -1,0 +1,3 @@
+-- Offsets of saved lines as exact values, and what the calls of this crate answer.
+pub mod Offsets
+pub mod Lines

@@ -1,0 +1,67 @@
+-- What the calls of this crate answer, in the requests' numbers.
+use Prim.Native.Nat.{ℕ, _≤_}
+use mathlib.Core.Path.{_≡_}
+use mathlib.Core.Bool.{Bool, true, false, not}
+use mathlib.Core.List.{List}
+use lib.Dec.{leb}
+use lib.ListN.{length}
+use lib.Signed.{ltZ}
+use Rattle.theory.specs.Lists.{firstWhere, none}
+use Rattle.theory.specs.Tests.{_and_, unless}
+use Rattle.format.specs.Given.{Given, gives, refused, refusedAt, _then_}
+use Rattle.format.specs.Refusals.{refusalNumber}
+use Rattle.binary32.specs.Patterns.{finite, notFinite, patternValue, patternValues}
+use Rattle.saved_lines.specs.declared.Check.{Check}
+use Rattle.saved_lines.specs.declared.Check.the-variants as check
+use Rattle.saved_lines.specs.declared.LineAnswer.{LineAnswer}
+use Rattle.saved_lines.specs.declared.LineAnswer.the-variants as answer
+use Rattle.saved_lines.specs.Offsets.{nearest, descends}
+
+-- ---- the answers in the requests' numbers
+abbrev pub given : LineAnswer → Given ℕ
+given (answer.Found n) = gives n
+given (answer.Refused why) = refused (refusalNumber why)
+given (answer.RefusedAt why index) = refusedAt (refusalNumber why) index
+
+-- an examination passes or is refused
+abbrev pub Examination : Type 0
+Examination = Given (Unit {0})
+
+abbrev pub passed : Examination
+passed = gives tt
+
+abbrev pub checked : Check → Examination
+checked check.Passed = passed
+checked (check.Refused why) = refused (refusalNumber why)
+checked (check.RefusedAt why index) = refusedAt (refusalNumber why) index
+
+-- ---- the checks
+-- 9 for the first pattern that is not finite, with its index; else what comes after
+unfoldable pub patternsChecked : (l : List ℕ) → Examination → Examination
+patternsChecked l go-on = unless (none notFinite l) (refusedAt 9 (firstWhere notFinite l)) go-on
+
+-- 13 for a list that descends somewhere
+unfoldable pub orderChecked : List ℕ → Examination
+orderChecked l = unless (not (descends (patternValues l))) (refused 13) passed
+
+-- 12 for a list that is empty or longer than 4,096, 9 for its patterns, 9 for the numbers beside it, 13
+unfoldable pub linesChecked : (l : List ℕ) (finite : Bool) → Examination
+linesChecked l finite =
+    unless (leb 1 (length l) and leb (length l) 4096) (refused 12)
+    (patternsChecked l (unless finite (refused 9) (orderChecked l)))
+
+-- a list that passed them
+pub record Checked (l : List ℕ) : Type 0 where
+  pub some : 1 ≤ length l
+  pub most : length l ≤ 4096
+  pub finite : none notFinite l ≡ true
+  pub order : descends (patternValues l) ≡ false
+
+-- ---- the calls
+-- the answer of nearest_line
+unfoldable pub nearestLine : (l : List ℕ) (query : ℕ) → Given ℕ
+nearestLine l query = linesChecked l (finite query) then λ _. gives (nearest (patternValues l) (patternValue query))
+
+-- ---- the test of a search: is the value of n at least that of the number?
+unfoldable pub atLeast : (number n : ℕ) → Bool
+atLeast number n = not (ltZ (patternValue n) (patternValue number))

@@ -1,0 +1,212 @@
+/* Saved lines against plain searches on exact values: a pattern is a whole number of 2^-149 units in an array of words, and every
+ * distance is the difference of two such numbers. */
+#include <stdbool.h>
+#include <string.h>
+
+#include "compare.h"
+#include "zurkeb.h"
+
+enum { WORDS = 5, MOST = 4096 };
+
+/* ---- whole numbers of 320 bits, in two's complement, lowest word first */
+typedef struct whole {
+    uint64_t word[WORDS];
+} whole;
+
+static whole minus(whole a, whole b) {
+    whole r;
+    uint64_t borrow = 0;
+    for (int i = 0; i < WORDS; i++) {
+        uint64_t d = a.word[i] - b.word[i];
+        r.word[i] = d - borrow;
+        borrow = a.word[i] < b.word[i] || d < borrow;
+    }
+    return r;
+}
+
+static bool below_zero(whole a) { return a.word[WORDS - 1] >> 63; }
+
+static whole magnitude(whole a) { return below_zero(a) ? minus((whole){{0}}, a) : a; }
+
+/* -1, 0 or 1: the order of a and b. */
+static int order(whole a, whole b) {
+    whole d = minus(a, b);
+    if (below_zero(d))
+        return -1;
+    for (int i = 0; i < WORDS; i++)
+        if (d.word[i] != 0)
+            return 1;
+    return 0;
+}
+
+/* The value of a finite pattern in units of 2^-149. */
+static whole value(uint32_t pattern) {
+    uint32_t field = pattern >> 23 & 255, fraction = pattern & 0x7fffff;
+    uint64_t significand = field == 0 ? fraction : fraction | 0x800000;
+    unsigned place = field == 0 ? 0 : field - 1;
+    whole r = {{0}};
+    r.word[place / 64] = significand << place % 64;
+    if (place % 64 != 0)
+        r.word[place / 64 + 1] = significand >> (64 - place % 64);
+    return pattern >> 31 ? minus((whole){{0}}, r) : r;
+}
+
+static whole distance(uint32_t offset, uint32_t query) { return magnitude(minus(value(offset), value(query))); }
+
+static bool finite(uint32_t pattern) { return (pattern >> 23 & 255) != 255; }
+
+/* ---- what the requests say */
+/* What a call answers: a refusal, perhaps with an index, or a number. */
+typedef struct answer {
+    uint32_t refusal, number, indexed, index;
+} answer;
+
+/* The checks in their order: 12, 9 in the list, 9 beside it, 13. */
+static answer checked(const uint32_t *list, size_t length, bool beside_finite) {
+    answer r = {0, 0, 0, 0};
+    if (length == 0 || length > MOST) {
+        r.refusal = 12;
+        return r;
+    }
+    for (size_t i = 0; i < length; i++)
+        if (!finite(list[i]))
+            return (answer){9, 0, 1, (uint32_t)i};
+    if (!beside_finite) {
+        r.refusal = 9;
+        return r;
+    }
+    for (size_t i = 0; i + 1 < length; i++)
+        if (order(value(list[i]), value(list[i + 1])) > 0)
+            r.refusal = 13;
+    return r;
+}
+
+/* Is the line at i nearer than that at best, or as near and of a smaller offset? */
+static bool better(const uint32_t *list, uint32_t query, size_t i, size_t best) {
+    int by_distance = order(distance(list[i], query), distance(list[best], query));
+    return by_distance < 0 || (by_distance == 0 && order(value(list[i]), value(list[best])) < 0);
+}
+
+static answer nearest(const uint32_t *list, size_t length, uint32_t query) {
+    answer r = checked(list, length, finite(query));
+    if (r.refusal != 0)
+        return r;
+    size_t best = 0;
+    for (size_t i = 1; i < length; i++)
+        if (better(list, query, i, best))
+            best = i;
+    r.number = (uint32_t)best;
+    return r;
+}
+
+/* ---- comparisons */
+static void compare_nearest(const uint32_t *list, size_t length, uint32_t query) {
+    answer wanted = nearest(list, length, query);
+    zurkeb_position_answer ours = zurkeb_nearest_line(list, length, query);
+    same("nearest_line refusal", ours.refusal, wanted.refusal);
+    same("nearest_line position", ours.position, wanted.number);
+    same("nearest_line indexed", ours.indexed, wanted.indexed);
+    same("nearest_line index", ours.index, wanted.index);
+}
+
+/* ---- patterns and lists */
+static const uint32_t special[] = {0,          0x80000000, 1,          0x80000001, 2,          0x80000002, 0x007fffff, 0x00800000,
+                                   0x00800001, 0x807fffff, 0x80800000, 0x7f7fffff, 0xff7fffff, 0x7f7ffffe, 0xff7ffffe, 0x3f800000,
+                                   0xbf800000, 0x4b800000, 0x4c000000, 0x4b7fffff, 0x3f800001, 0x3f7fffff};
+static const uint32_t not_finite[] = {0x7f800000, 0xff800000, 0x7fc00000, 0xffc00001, 0x7f800001};
+
+#define COUNT(array) (sizeof(array) / sizeof *(array))
+
+/* A finite pattern: any, a special one, a small whole number, a subnormal one, or one near another. */
+static uint32_t some_pattern(uint32_t near) {
+    uint32_t pattern;
+    switch (random32() % 6) {
+    case 0:
+        do
+            pattern = random32();
+        while (!finite(pattern));
+        return pattern;
+    case 1:
+        return special[random32() % COUNT(special)];
+    case 2: {
+        float whole_number = (float)((int)(random32() % 33) - 16);
+        memcpy(&pattern, &whole_number, sizeof pattern);
+        return pattern;
+    }
+    case 3:
+        return (random32() & 0x80000000) | random32() % 64;
+    case 4:
+        return (random32() & 0x80000000) | (0x7f7fffff - random32() % 8);
+    default:
+        pattern = near + random32() % 9 - 4;
+        return finite(pattern) ? pattern : near;
+    }
+}
+
+static int by_value(const void *a, const void *b) { return order(value(*(const uint32_t *)a), value(*(const uint32_t *)b)); }
+
+/* A list that ascends. */
+static void fill(uint32_t *list, size_t length) {
+    for (size_t i = 0; i < length; i++)
+        list[i] = some_pattern(i == 0 ? 0 : list[i - 1]);
+    qsort(list, length, sizeof *list, by_value);
+}
+
+static uint32_t some_query(const uint32_t *list, size_t length) {
+    return some_pattern(length == 0 ? 0 : list[random32() % length]);
+}
+
+/* Some lists are spoiled: a pattern that is not finite, two lines exchanged, or a query that is not finite. */
+static void spoil(uint32_t *list, size_t length, uint32_t *query) {
+    if (random32() % 8 == 0 && length > 0)
+        list[random32() % length] = not_finite[random32() % COUNT(not_finite)];
+    if (random32() % 8 == 0 && length > 0) {
+        size_t i = random32() % length, j = random32() % length;
+        uint32_t kept = list[i];
+        list[i] = list[j];
+        list[j] = kept;
+    }
+    if (random32() % 16 == 0)
+        *query = not_finite[random32() % COUNT(not_finite)];
+}
+
+static uint32_t list[MOST + 1];
+
+static void compare_all(size_t length, uint32_t query) { compare_nearest(list, length, query); }
+
+/* The lines at -1 and 2^25 around 2^24: the rounded differences are equal, the exact ones are not. */
+static void compare_rounded(void) {
+    const uint32_t around[] = {0xbf800000, 0x4c000000};
+    same("a rounded difference decides", zurkeb_nearest_line(around, 2, 0x4b800000).position, 1);
+}
+
+/* The order of the refusals where several conditions hold. */
+static void compare_orders(void) {
+    const uint32_t bad = 0x7f800000, one = 0x3f800000, two = 0x40000000;
+    uint32_t spoiled[] = {two, one, bad, bad};
+    same("12 before 9", zurkeb_nearest_line(spoiled, 0, bad).refusal, 12);
+    same("9 before 13", zurkeb_nearest_line(spoiled, 4, bad).refusal, 9);
+    same("9 with the first index", zurkeb_nearest_line(spoiled, 4, bad).index, 2);
+    same("9 of the query before 13", zurkeb_nearest_line(spoiled, 2, bad).refusal, 9);
+    same("9 of the query has no index", zurkeb_nearest_line(spoiled, 2, bad).indexed, 0);
+    same("13", zurkeb_nearest_line(spoiled, 2, one).refusal, 13);
+    for (size_t i = 0; i < MOST + 1; i++)
+        list[i] = bad;
+    same("12 for 4,097 lines", zurkeb_nearest_line(list, MOST + 1, bad).refusal, 12);
+    same("9 for 4,096 lines", zurkeb_nearest_line(list, MOST, bad).refusal, 9);
+}
+
+int main(int count, char **arguments) {
+    uint64_t rounds = rounds_of(count, arguments, 20000);
+    compare_rounded();
+    compare_orders();
+    for (uint64_t round = 0; round < rounds; round++) {
+        size_t length = round % 500 == 499 ? MOST - random32() % 3 : random32() % 24;
+        fill(list, length);
+        uint32_t query = some_query(list, length);
+        compare_all(length, query);
+        spoil(list, length, &query);
+        compare_all(length, query);
+    }
+    return no_difference();
+}
