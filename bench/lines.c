@@ -46,6 +46,30 @@ static uint64_t nearest_pass(const void *what) {
     return used;
 }
 
+/* The reach of the calls, and what they write. */
+static uint32_t reach, out[LINES];
+
+static uint64_t within_pass(const void *what) {
+    const list *l = what;
+    uint64_t used = 0;
+    for (int i = 0; i < QUERIES; i++) {
+        zurkeb_reach_answer r = zurkeb_lines_within(l->offsets, l->length, queries[i], reach, out, LINES);
+        used += (uint64_t)r.refusal << 32 ^ r.found;
+    }
+    return used;
+}
+
+/* How many lines are within a reach, on the average, and the time of a call. */
+static void time_reach(uint32_t pattern) {
+    const list full = {rising, LINES};
+    reach = pattern;
+    double found = (double)within_pass(&full) / QUERIES;
+    const work works[] = {{within_pass, &full}};
+    timed t[1];
+    time_works(works, t, 1, QUERIES);
+    printf("| lines_within, %.0f found | %.1f | %.1f |\n", found, t[0].best, t[0].median);
+}
+
 void time_lines(void) {
     draw_lines();
     const list full = {rising, LINES}, two = {rising, 2}, refused = {falling, LINES};
@@ -57,5 +81,8 @@ void time_lines(void) {
     printf("\n| saved lines | ns | median |\n|---|---|---|\n");
     for (int w = 0; w < count; w++)
         printf("| %s | %.1f | %.1f |\n", names[w], t[w].best, t[w].median);
+    time_reach(0x3a000000);
+    time_reach(0x3d000000);
+    time_reach(0x7f000000);
     printf("\nthe checks, a line: %.2f ns\n", t[2].best / LINES);
 }

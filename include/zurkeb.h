@@ -27,7 +27,8 @@ enum zurkeb_refusal {
     ZURKEB_NO_SUCH_FORMAT = 10,
     ZURKEB_LENGTHS_DIFFER = 11,
     ZURKEB_LIST_LENGTH = 12, /* empty, or longer than 4,096 */
-    ZURKEB_LIST_DESCENDS = 13
+    ZURKEB_LIST_DESCENDS = 13,
+    ZURKEB_OUT_TOO_SHORT = 14
 };
 
 /* The directions of rounding: a call takes their numbers. */
@@ -91,6 +92,13 @@ typedef struct zurkeb_position_answer {
     uint32_t index;   /* of the first bad pattern in the list, beside refusal 9 */
 } zurkeb_position_answer;
 
+typedef struct zurkeb_reach_answer {
+    uint32_t refusal;
+    uint32_t found;
+    uint32_t indexed; /* 1 where the refusal has an index */
+    uint32_t index;   /* of the first bad pattern in the list, beside refusal 9 */
+} zurkeb_reach_answer;
+
 #ifdef __cplusplus
 #define ZURKEB_SIZE(type, size) static_assert(sizeof(type) == (size), #type)
 #else
@@ -105,6 +113,7 @@ ZURKEB_SIZE(zurkeb_triple_answer, 40);
 ZURKEB_SIZE(zurkeb_check_answer, 8);
 ZURKEB_SIZE(zurkeb_slices_answer, 16);
 ZURKEB_SIZE(zurkeb_position_answer, 16);
+ZURKEB_SIZE(zurkeb_reach_answer, 16);
 #undef ZURKEB_SIZE
 
 /* Is the format admitted? 0, or 1. */
@@ -169,6 +178,12 @@ zurkeb_slices_answer zurkeb_sum_slices(const uint32_t *a, size_t a_length, const
 /* The position of the offset nearest to the query; at equal distance the smaller offset, among equal offsets the first. Refuses 12,
  * 9 (in the list with its index, the first; then the query without one), 13. */
 zurkeb_position_answer zurkeb_nearest_line(const uint32_t *offsets, size_t length, uint32_t query);
+/* The positions of all offsets at most the distance away from the query, edge included, in out from its first entry on, in any order,
+ * and how many; a distance below zero finds none. Refuses 12, 9 (in the list with its index; then the query, then the distance), 13,
+ * and 14 where out is shorter than the number found. Entries past the last one found are unchanged, and a refused call leaves out as
+ * it was. out must not overlap offsets. */
+zurkeb_reach_answer zurkeb_lines_within(const uint32_t *offsets, size_t length, uint32_t query, uint32_t distance, uint32_t *out,
+                                        size_t out_length);
 
 #ifdef __cplusplus
 }

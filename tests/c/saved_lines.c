@@ -99,6 +99,23 @@ static answer nearest(const uint32_t *list, size_t length, uint32_t query) {
     return r;
 }
 
+/* Is the offset at most the reach away from the query? */
+static bool within(uint32_t offset, uint32_t query, uint32_t reach) { return order(distance(offset, query), value(reach)) <= 0; }
+
+/* How many lines are within reach, and which. */
+static answer reached(const uint32_t *list, size_t length, uint32_t query, uint32_t reach, size_t room, bool *found) {
+    answer r = checked(list, length, finite(query) && finite(reach));
+    if (r.refusal != 0)
+        return r;
+    for (size_t i = 0; i < length; i++) {
+        found[i] = within(list[i], query, reach);
+        r.number += found[i];
+    }
+    if (r.number > room)
+        return (answer){14, 0, 0, 0};
+    return r;
+}
+
 /* ---- comparisons */
 static void compare_nearest(const uint32_t *list, size_t length, uint32_t query) {
     answer wanted = nearest(list, length, query);
@@ -107,6 +124,34 @@ static void compare_nearest(const uint32_t *list, size_t length, uint32_t query)
     same("nearest_line position", ours.position, wanted.number);
     same("nearest_line indexed", ours.indexed, wanted.indexed);
     same("nearest_line index", ours.index, wanted.index);
+}
+
+/* What out holds before a call, and after it: the positions found in any order, then what it held. */
+static uint32_t before[MOST], out[MOST];
+
+static void compare_written(const bool *found, size_t length, uint32_t number) {
+    static bool seen[MOST];
+    memset(seen, 0, sizeof seen);
+    for (uint32_t k = 0; k < number; k++) {
+        same("lines_within writes a position", out[k] < length, 1);
+        same("lines_within writes one that is found", found[out[k]], 1);
+        same("lines_within writes none twice", seen[out[k]], 0);
+        seen[out[k]] = true;
+    }
+}
+
+static void compare_within(const uint32_t *list, size_t length, uint32_t query, uint32_t reach, size_t room) {
+    static bool found[MOST];
+    answer wanted = reached(list, length, query, reach, room, found);
+    for (size_t i = 0; i < MOST; i++)
+        out[i] = before[i] = random32();
+    zurkeb_reach_answer ours = zurkeb_lines_within(list, length, query, reach, out, room);
+    same("lines_within refusal", ours.refusal, wanted.refusal);
+    same("lines_within found", ours.found, wanted.number);
+    same("lines_within indexed", ours.indexed, wanted.indexed);
+    same("lines_within index", ours.index, wanted.index);
+    compare_written(found, length, wanted.number);
+    same("lines_within leaves the rest", memcmp(out + wanted.number, before + wanted.number, (MOST - wanted.number) * sizeof *out), 0);
 }
 
 /* ---- patterns and lists */
@@ -172,7 +217,27 @@ static void spoil(uint32_t *list, size_t length, uint32_t *query) {
 
 static uint32_t list[MOST + 1];
 
-static void compare_all(size_t length, uint32_t query) { compare_nearest(list, length, query); }
+/* A reach: one of the patterns, or the rounded distance between a line and the query, so that edges and numbers beside them occur. */
+static uint32_t some_reach(size_t length, uint32_t query) {
+    if (length == 0 || random32() % 3 == 0)
+        return random32() % 16 == 0 ? not_finite[random32() % COUNT(not_finite)] : some_pattern(query);
+    float a, b, apart;
+    uint32_t pattern;
+    memcpy(&a, &list[random32() % length], sizeof a);
+    memcpy(&b, &query, sizeof b);
+    apart = a < b ? b - a : a - b;
+    memcpy(&pattern, &apart, sizeof pattern);
+    return pattern + random32() % 3 - 1;
+}
+
+static void compare_all(size_t length, uint32_t query) {
+    compare_nearest(list, length, query);
+    size_t room = random32() % 3 == 0 ? random32() % (length + 1) : MOST;
+    uint32_t reach = some_reach(length, query);
+    compare_within(list, length, query, reach, room);
+    compare_within(list, length, query, reach & 0x7fffffff, room);
+    compare_within(list, length, query, random32() & 0x80000000, room);
+}
 
 /* The lines at -1 and 2^25 around 2^24: the rounded differences are equal, the exact ones are not. */
 static void compare_rounded(void) {
@@ -196,10 +261,26 @@ static void compare_orders(void) {
     same("9 for 4,096 lines", zurkeb_nearest_line(list, MOST, bad).refusal, 9);
 }
 
+/* The edge is within reach, one unit less is not, and the room may be just long enough. */
+static void compare_edges(void) {
+    const uint32_t lines[] = {0xbf800000, 0x3f800000, 0x40000000, 0x40400000};
+    compare_within(lines, 4, 0x40000000, 0x3f800000, 3);
+    compare_within(lines, 4, 0x40000000, 0x3f7fffff, 1);
+    compare_within(lines, 4, 0x40000000, 0x7f7fffff, 4);
+    compare_within(lines, 4, 0x40000000, 0x7f7fffff, 3);
+    compare_within(lines, 4, 0x40000000, 0xbf800000, 0);
+    compare_within(lines, 4, 0x40000000, 0x80000000, 1);
+    same("the edge is included", zurkeb_lines_within(lines, 4, 0x40000000, 0x3f800000, out, 3).found, 3);
+    same("below zero finds none", zurkeb_lines_within(lines, 4, 0x40000000, 0xbf800000, out, 0).refusal, 0);
+    same("14", zurkeb_lines_within(lines, 4, 0x40000000, 0x3f800000, out, 2).refusal, 14);
+    same("9 of the distance before 14", zurkeb_lines_within(lines, 4, 0x40000000, 0x7f800000, out, 0).refusal, 9);
+}
+
 int main(int count, char **arguments) {
     uint64_t rounds = rounds_of(count, arguments, 20000);
     compare_rounded();
     compare_orders();
+    compare_edges();
     for (uint64_t round = 0; round < rounds; round++) {
         size_t length = round % 500 == 499 ? MOST - random32() % 3 : random32() % 24;
         fill(list, length);

@@ -11,7 +11,6 @@ use lib.Dec.{eqb}
 use lib.IntN.{ℤ, pos, negℤ, _+ℤ_}
 use lib.Signed.{leZ, ltZ}
 use Rattle.theory.specs.Place.{Positional}
-use Rattle.theory.specs.Wide as theory
 use Rattle.theory.specs.Round.{downward}
 use Rattle.theory.specs.Signed.{signed, WideZ, roundZ}
 use Rattle.theory.proofs.Powers.{pow-pos}

@@ -29,6 +29,7 @@ use Rattle.c_answers.specs.declared.TripleAnswer.{TripleAnswer}
 use Rattle.c_answers.specs.declared.CheckAnswer.{CheckAnswer}
 use Rattle.c_answers.specs.declared.SlicesAnswer.{SlicesAnswer}
 use Rattle.c_answers.specs.declared.PositionAnswer.{PositionAnswer}
+use Rattle.c_answers.specs.declared.ReachAnswer.{ReachAnswer}
 
 abbrev pub noNumber : Number
 noNumber = record { negative = false; significand = 0; exponent = pos 0 }
@@ -78,3 +79,9 @@ abbrev pub positionOut : Given ℕ → PositionAnswer
 positionOut (gives n) = record { refusal = 0; position = n; indexed = 0; index = 0 }
 positionOut (refused number) = record { refusal = number; position = 0; indexed = 0; index = 0 }
 positionOut (refusedAt number index) = record { refusal = number; position = 0; indexed = 1; index = index }
+
+-- how many positions were found, and an index where the refusal has one
+abbrev pub reachOut : Given ℕ → ReachAnswer
+reachOut (gives n) = record { refusal = 0; found = n; indexed = 0; index = 0 }
+reachOut (refused number) = record { refusal = number; found = 0; indexed = 0; index = 0 }
+reachOut (refusedAt number index) = record { refusal = number; found = 0; indexed = 1; index = index }

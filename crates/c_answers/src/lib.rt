@@ -14,7 +14,7 @@ use number::Number;
 use number::Ordered;
 use saved_lines::LineAnswer;
 ghost use mathlib.Core.Path.{_≡_};
-ghost use Rattle.c_answers.specs.Answers.{verdictOut, numberOut, orderOut, publishedOut, stepsOut, checkOut, patternOut, slicesOut, positionOut};
+ghost use Rattle.c_answers.specs.Answers.{verdictOut, numberOut, orderOut, publishedOut, stepsOut, checkOut, patternOut, slicesOut, positionOut, reachOut};
 ghost use Rattle.saved_lines.specs.Lines.{given};
 
 #[repr(C)]
@@ -61,6 +61,15 @@ pub struct SlicesAnswer {
 pub struct PositionAnswer {
     pub refusal: u32,
     pub position: u32,
+    pub indexed: u32,
+    pub index: u32,
+}
+
+// How many positions were found.
+#[repr(C)]
+pub struct ReachAnswer {
+    pub refusal: u32,
+    pub found: u32,
     pub indexed: u32,
     pub index: u32,
 }
@@ -238,6 +247,31 @@ pub fn position_out(answer: LineAnswer) -> PositionAnswer
         LineAnswer::RefusedAt(why, index) => PositionAnswer {
             refusal: refusal_number(why),
             position: 0,
+            indexed: 1,
+            index: index,
+        },
+    }
+}
+
+pub fn reach_out(answer: LineAnswer) -> ReachAnswer
+    ensures { λ r. ⌜ r ≡ reachOut (given answer) ⌝ }
+{
+    match answer {
+        LineAnswer::Found(found) => ReachAnswer {
+            refusal: 0,
+            found: found,
+            indexed: 0,
+            index: 0,
+        },
+        LineAnswer::Refused(why) => ReachAnswer {
+            refusal: refusal_number(why),
+            found: 0,
+            indexed: 0,
+            index: 0,
+        },
+        LineAnswer::RefusedAt(why, index) => ReachAnswer {
+            refusal: refusal_number(why),
+            found: 0,
             indexed: 1,
             index: index,
         },

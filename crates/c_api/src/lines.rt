@@ -1,10 +1,14 @@
 // Saved lines, for C.
 use c_answers::PositionAnswer;
+use c_answers::ReachAnswer;
 use c_answers::position_out;
+use c_answers::reach_out;
 use saved_lines::nearest::nearest_line;
+use saved_lines::reach::lines_within;
 ghost use mathlib.Core.Path.{_≡_};
-ghost use Rattle.saved_lines.specs.Lines.{nearestLine};
-ghost use Rattle.c_answers.specs.Answers.{positionOut};
+ghost use lib.ListN.{length};
+ghost use Rattle.saved_lines.specs.Lines.{nearestLine, linesFound, linesWithin, withinWritten};
+ghost use Rattle.c_answers.specs.Answers.{positionOut, reachOut};
 
 // The position of the saved offset nearest to the query. Refuses 12, 9 (in the list with its index), 13.
 #[no_mangle]
@@ -12,4 +16,21 @@ pub extern "C" fn zurkeb_nearest_line(offsets: &[u32], query: u32) -> PositionAn
     ensures { λ r. ⌜ r ≡ positionOut (nearestLine (now (offsets .entry)) query) ⌝ }
 {
     position_out(nearest_line(offsets, query))
+}
+
+// The positions of all lines within the distance of the query into out, and how many. Refuses 12, 9 (in the list with its index), 13,
+// 14; a refused call leaves out as it was.
+#[no_mangle]
+pub extern "C" fn zurkeb_lines_within(
+    offsets: &[u32],
+    query: u32,
+    distance: u32,
+    out: &mut [u32],
+) -> ReachAnswer
+    ensures answer { λ r. ⌜ r ≡ reachOut (linesWithin (now (offsets .entry)) query distance (length (now (out .entry)))) ⌝ }
+    ensures written { λ _. ⌜ withinWritten (linesWithin (now (offsets .entry)) query distance (length (now (out .entry))))
+        (linesFound (now (offsets .entry)) query distance) (now (out .entry)) (now (out .exit)) ⌝ }
+{
+    let answer = lines_within(offsets, query, distance, out);
+    reach_out(answer)
 }

@@ -32,6 +32,7 @@ pub enum Refusal {
     LengthsDiffer,
     ListLength,
     ListDescends,
+    OutTooShort,
 }
 
 // The five directions, in the order of their numbers 0 to 4.

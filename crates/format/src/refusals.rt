@@ -21,5 +21,6 @@ pub fn refusal_number(refusal: Refusal) -> u32
         Refusal::LengthsDiffer => 11,
         Refusal::ListLength => 12,
         Refusal::ListDescends => 13,
+        Refusal::OutTooShort => 14,
     }
 }

@@ -64,10 +64,10 @@ unfolding unless
 went-on true e n = (refl, e)
 went-on false e n = absurd (n e)
 
-pub not-refused : {n : ℕ} → _≡_ {A = Examination} (refused n) passed → ⊥
+not-refused : {n : ℕ} → _≡_ {A = Examination} (refused n) passed → ⊥
 not-refused e = let z : _≡_ {A = ℕ} 0 1 = cc in omega arith
 
-pub not-refused-at : {n i : ℕ} → _≡_ {A = Examination} (refusedAt n i) passed → ⊥
+not-refused-at : {n i : ℕ} → _≡_ {A = Examination} (refusedAt n i) passed → ⊥
 not-refused-at e = let z : _≡_ {A = ℕ} 0 1 = cc in omega arith
 
 pub passed-checks : (l : List ℕ) (t : Bool) → linesChecked l t ≡ passed → Checked l × (t ≡ true)

@@ -1,15 +1,14 @@
 -- Exact distances from a query: on natural numbers, and by the sum of two numbers against twice the query.
-use Prim.Native.Nat.{ℕ, _+_, _≤_, _<_}
+use Prim.Native.Nat.{_+_, _≤_, _<_}
 use mathlib.Core.Path.{_≡_, sym, ap, _∙_}
 use mathlib.Core.Bool.{Bool, true, false, not}
 use native.Mathlib.Omega.{arith}
-use lib.Dec.{ltb}
 use lib.IntN.{ℤ, _+ℤ_, _-ℤ_}
 use lib.Signed.{leZ, ltZ}
-use borrow.Author.Tests.{ltb-true, ltb-false, lt-ltb, le-ltb, not-true, not-false}
+use borrow.Author.Tests.{ltb-true, ltb-false, lt-ltb, le-ltb}
 use Rattle.theory.proofs.Integers.{above, below, sum-parts, diff-parts, size-by, parts-eq}
 use Rattle.theory.proofs.Multiples.{dist}
-use Rattle.format.proofs.Signed.{Upto, Under, le-true, le-false, lt-true, lt-false}
+use Rattle.format.proofs.Signed.{Under, le-true, le-false, lt-true, lt-false}
 use Rattle.saved_lines.specs.Offsets.{distance, nearer}
 
 -- the distance on natural numbers
@@ -26,7 +25,7 @@ module _ (q v w : ℤ) where
   unfolding nearer
   nearer-false h = ltb-false _ _ h
 
-  pub nearer-made : distance v q < distance w q → nearer q v w ≡ true
+  nearer-made : distance v q < distance w q → nearer q v w ≡ true
   unfolding nearer
   nearer-made h = lt-ltb _ _ h
 

@@ -6,8 +6,9 @@ use Rattle.theory.specs.Lists.{firstWhere, none, someNeighbours}
 use Rattle.theory.specs.Tests.{_and_, _or_, unless}
 use Rattle.format.specs.Given.{gives, refused, refusedAt}
 use Rattle.binary32.specs.Patterns.{finite, notFinite, magnitudeRead, patternValue}
-use Rattle.saved_lines.specs.Offsets.{distance, nearer, isNearest, nearest, falls, descends}
-use Rattle.saved_lines.specs.Lines.{patternsChecked, orderChecked, linesChecked, nearestLine}
+use Rattle.saved_lines.specs.Offsets.{distance, nearer, isNearest, nearest, isWithin, falls, descends}
+use Rattle.saved_lines.specs.Positions.{positionsFrom}
+use Rattle.saved_lines.specs.Lines.{patternsChecked, orderChecked, linesChecked, nearestLine, linesWithin}
 
 -- 1, 2, 3 and -1 as patterns
 abbrev one : ℕ
@@ -56,3 +57,24 @@ descending = refl
 empty : nearestLine [] 2139095040 ≡ refused 12
 unfolding nearestLine linesChecked patternsChecked orderChecked none firstWhere notFinite finite descends someNeighbours falls nearest isNearest nearer distance patternValue magnitudeRead unless _and_ _or_
 empty = refl
+
+-- ---- within reach
+-- within 1 of 2, edge included
+edge : linesWithin (minus-one ∷ one ∷ two ∷ three ∷ []) two one 3 ≡ gives 3
+unfolding linesWithin positionsFrom isWithin linesChecked patternsChecked orderChecked none firstWhere notFinite finite descends someNeighbours falls distance patternValue magnitudeRead unless _and_ _or_
+edge = refl
+
+-- one place of `out` too few
+short : linesWithin (minus-one ∷ one ∷ two ∷ three ∷ []) two one 2 ≡ refused 14
+unfolding linesWithin positionsFrom isWithin linesChecked patternsChecked orderChecked none firstWhere notFinite finite descends someNeighbours falls distance patternValue magnitudeRead unless _and_ _or_
+short = refl
+
+-- a distance below zero finds none, whatever the room
+below-zero : linesWithin (one ∷ two ∷ []) two minus-one 0 ≡ gives 0
+unfolding linesWithin positionsFrom isWithin linesChecked patternsChecked orderChecked none firstWhere notFinite finite descends someNeighbours falls distance patternValue magnitudeRead unless _and_ _or_
+below-zero = refl
+
+-- minus zero is no distance below zero
+minus-zero : linesWithin (one ∷ two ∷ []) two 2147483648 2 ≡ gives 1
+unfolding linesWithin positionsFrom isWithin linesChecked patternsChecked orderChecked none firstWhere notFinite finite descends someNeighbours falls distance patternValue magnitudeRead unless _and_ _or_
+minus-zero = refl

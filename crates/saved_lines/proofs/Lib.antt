@@ -7,6 +7,10 @@ pub mod Offsets
 pub mod Checking
 pub mod Searches
 pub mod Positions
+pub mod PositionLists
+pub mod Reaches
 -- the answers in the requests' words
-pub mod AnswerLaws
+pub mod Refusals
+pub mod NearestAnswers
+pub mod ReachAnswers
 pub mod Examples

@@ -1,6 +1,6 @@
 -- The nearest line in the words of request 2: it is a position of the list, no line is nearer, at equal distance the smaller offset
 -- wins, and among equal offsets the first.
-use Prim.Native.Nat.{ℕ, zero, suc, _+_, _-_, _≤_, _<_}
+use Prim.Native.Nat.{ℕ, zero, suc, _-_, _≤_, _<_}
 use mathlib.Core.Path.{_≡_, refl, sym, ap, _∙_}
 use mathlib.Core.Bool.{Bool, true, false}
 use mathlib.Core.List.{List, [], _∷_}
@@ -11,7 +11,7 @@ use native.Mathlib.Decide.{decLe}
 use lib.IntN.{ℤ, pos}
 use lib.ListN.{length, getD}
 use lib.Signed.{_≤ℤ_, _<ℤ_}
-use Rattle.theory.proofs.Integers.{above, below, parts-le, lt-parts}
+use Rattle.theory.proofs.Integers.{parts-le, lt-parts}
 use Rattle.theory.proofs.Lists.{first-is, first-before, first-passes, first-position, none-at, none-made, neighbours-made, neighbours-fail}
 use Rattle.theory.proofs.Tests.{never}
 use Rattle.format.proofs.Signed.{Upto, Under, lt-false, make-lt}
@@ -87,7 +87,7 @@ module _ (vs : List ℤ) (q : ℤ) where
     nearest-least k l = passed-least (nearest vs q) k (first-passes (isNearest vs q) (pos 0) vs nearest-position) l
 
     -- every line before it is farther
-    pub nearest-first : (k : ℕ) → k < nearest vs q → distance (at vs (nearest vs q)) q < distance (at vs k) q
+    nearest-first : (k : ℕ) → k < nearest vs q → distance (at vs (nearest vs q)) q < distance (at vs k) q
     unfolding nearest
     nearest-first k l = by (decLe (distance (at vs k) q) (distance (at vs (nearest vs q)) q))
       where
@@ -108,7 +108,7 @@ module _ (vs : List ℤ) (q : ℤ) where
         by (no l) = absurd (omega (arith, nearest-first k (omega arith), ap (λ (v : ℤ). distance v q) e))
 
   -- and these say which it is
-  pub nearest-is : (n : ℕ) → Least vs q n → ((k : ℕ) → k < n → distance (at vs n) q < distance (at vs k) q) → nearest vs q ≡ n
+  nearest-is : (n : ℕ) → Least vs q n → ((k : ℕ) → k < n → distance (at vs n) q < distance (at vs k) q) → nearest vs q ≡ n
   unfolding nearest
   nearest-is n h b = first-is (isNearest vs q) (pos 0) vs n (h .position) (least-passes h) farther
     where

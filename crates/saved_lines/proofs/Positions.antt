@@ -1,10 +1,9 @@
 -- The position that the code of the nearest line finds.
 use Prim.Native.Nat.{ℕ, _-_, _≤_, _<_}
-use mathlib.Core.Path.{_≡_, sym, ap, _∙_}
+use mathlib.Core.Path.{_≡_, sym, _∙_}
 use mathlib.Core.Bool.{Bool, true, false}
 use mathlib.Core.List.{List}
 use native.Mathlib.Omega.{arith}
-use lib.IntN.{ℤ}
 use lib.ListN.{length, getD}
 use Rattle.theory.specs.Lists.{firstWhere}
 use Rattle.theory.proofs.Integers.{parts-eq}
@@ -12,23 +11,25 @@ use Rattle.theory.proofs.Lists.{first-before, first-most, first-upto}
 use Rattle.format.proofs.Signed.{Upto, Under}
 use Rattle.binary32.specs.Patterns.{patternValue, patternValues}
 use Rattle.binary32.proofs.PatternValues.{value-at, values-length}
-use Rattle.saved_lines.specs.Offsets.{distance, nearer, nearest}
-use Rattle.saved_lines.specs.Lines.{Checked, atLeast}
+use Rattle.saved_lines.specs.declared.Sought.the-variants.{AtLeast}
+use Rattle.saved_lines.specs.Offsets.{nearer, nearest}
+use Rattle.saved_lines.specs.Searches.{passesOf}
+use Rattle.saved_lines.specs.Lines.{Checked}
 use Rattle.saved_lines.proofs.DistanceLaws.{nearer-true, nearer-false}
 use Rattle.saved_lines.proofs.NearestLaws.{at, left-nearest, right-nearest}
 use Rattle.saved_lines.proofs.Offsets.{offsets-ascend, rising}
 use Rattle.saved_lines.proofs.Searches.{below-number, from-number, itself-passes, from-first}
 
 -- `next` is the first position whose offset is not below the query
-module _ (l : List ℕ) (c : Checked l) (q : ℕ) {next : ℕ} (e : next ≡ firstWhere (atLeast q) l) where
+module _ (l : List ℕ) (c : Checked l) (q : ℕ) {next : ℕ} (e : next ≡ firstWhere (passesOf (AtLeast q)) l) where
   low : (k : ℕ) → k < next → Under (at (patternValues l) k) (patternValue q)
-  low k h = rw (value-at l k) (below-number q (getD l k 0) (first-before (atLeast q) 0 l k (omega arith)))
+  low k h = rw (value-at l k) (below-number q (getD l k 0) (first-before (passesOf (AtLeast q)) 0 l k (omega arith)))
 
   high : (k : ℕ) → next ≤ k → k < length (patternValues l) → Upto (patternValue q) (at (patternValues l) k)
-  high k h m = rw (value-at l k) (from-number q (getD l k 0) (from-first l c q k (omega arith) (omega (arith, values-length l))))
+  high k h m = rw (value-at l k) (from-number q (getD l k 0) (from-first l c (AtLeast q) k (omega arith) (omega (arith, values-length l))))
 
   pub next-most : next ≤ length l
-  next-most = omega (arith, first-most (atLeast q) 0 l)
+  next-most = omega (arith, first-most (passesOf (AtLeast q)) 0 l)
 
   abbrev test : Bool
   test = nearer (patternValue q) (patternValue (getD l next 0)) (patternValue (getD l (next - 1) 0))
@@ -46,14 +47,14 @@ module _ (l : List ℕ) (c : Checked l) (q : ℕ) {next : ℕ} (e : next ≡ fir
       (λ p. rw (value-at l (next - 1), value-at l next) (nearer-true (patternValue q) (patternValue (getD l next 0)) (patternValue (getD l (next - 1) 0)) t)))
 
   -- it is not: f is the first position with the value of the one before it
-  module _ {f : ℕ} (p : 0 < next) (g : f ≡ firstWhere (atLeast (getD l (next - 1) 0)) l) where
+  module _ {f : ℕ} (p : 0 < next) (g : f ≡ firstWhere (passesOf (AtLeast (getD l (next - 1) 0))) l) where
     before : f < next
-    before = omega (arith, first-upto (atLeast (getD l (next - 1) 0)) 0 l (next - 1) (itself-passes (getD l (next - 1) 0)))
+    before = omega (arith, first-upto (passesOf (AtLeast (getD l (next - 1) 0))) 0 l (next - 1) (itself-passes (getD l (next - 1) 0)))
 
     least : Upto (patternValue (getD l (next - 1) 0)) (patternValue (getD l f 0))
     least =
         from-number (getD l (next - 1) 0) (getD l f 0)
-        (from-first l c (getD l (next - 1) 0) f (omega arith) (omega (arith, before, next-most)))
+        (from-first l c (AtLeast (getD l (next - 1) 0)) f (omega arith) (omega (arith, before, next-most)))
 
     same : patternValue (getD l f 0) ≡ patternValue (getD l (next - 1) 0)
     same = parts-eq (patternValue (getD l f 0)) (patternValue (getD l (next - 1) 0)) (omega (arith, least, rising l c f (next - 1) (omega (arith, before)) (omega (arith, next-most))))
@@ -61,7 +62,7 @@ module _ (l : List ℕ) (c : Checked l) (q : ℕ) {next : ℕ} (e : next ≡ fir
     farther : (k : ℕ) → k < f → Under (at (patternValues l) k) (at (patternValues l) f)
     farther k h =
         rw (value-at l k, value-at l f, same)
-        (below-number (getD l (next - 1) 0) (getD l k 0) (first-before (atLeast (getD l (next - 1) 0)) 0 l k (omega arith)))
+        (below-number (getD l (next - 1) 0) (getD l k 0) (first-before (passesOf (AtLeast (getD l (next - 1) 0))) 0 l k (omega arith)))
 
     pub found-left : (next < length l → test ≡ false) → f ≡ nearest (patternValues l) (patternValue q)
     found-left t =

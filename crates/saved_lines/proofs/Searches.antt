@@ -1,68 +1,104 @@
--- The test of a search: on a list that ascends it passes from some position on.
+-- The tests of a binary search: on a list that ascends they pass from some position on.
 use Prim.Native.Nat.{ℕ, _+_, _≤_, _<_}
 use mathlib.Core.Path.{_≡_, refl, sym, ap, _∙_}
 use mathlib.Core.Bool.{Bool, true, false, not}
 use mathlib.Core.List.{List}
 use native.Mathlib.Omega.{arith}
+use lib.IntN.{ℤ, _+ℤ_}
 use lib.ListN.{length, getD}
-use lib.Signed.{ltZ}
+use lib.Signed.{leZ, ltZ}
 use borrow.Author.Tests.{not-true, not-false}
 use Rattle.theory.specs.Lists.{firstWhere}
+use Rattle.theory.specs.Tests.{_and_}
+use Rattle.theory.proofs.Integers.{sum-parts}
 use Rattle.theory.proofs.Lists.{first-passes}
-use Rattle.theory.proofs.Tests.{never}
-use Rattle.format.proofs.Signed.{Upto, Under, lt-true, lt-false, make-ge}
-use Rattle.binary32.specs.Patterns.{patternValue}
-use Rattle.saved_lines.specs.Lines.{Checked, atLeast}
+use Rattle.theory.proofs.Tests.{never, and-left, and-right}
+use Rattle.binary32.specs.Patterns.{finite, patternValue}
+use Rattle.format.proofs.Signed.{Upto, Under, le-true, le-false, lt-true, lt-false, make-le, make-ge}
+use Rattle.saved_lines.specs.declared.Sought.{Sought}
+use Rattle.saved_lines.specs.declared.Sought.the-variants.{AtLeast, Reaching, Beyond}
+use Rattle.saved_lines.specs.Searches.{passesOf, soughtFinite}
+use Rattle.saved_lines.specs.Lines.{Checked}
 use Rattle.saved_lines.proofs.Offsets.{rising}
 
--- ---- what the test says of the values
-module _ (x n : ℕ) where
-  pub below-number : atLeast x n ≡ false → Under (patternValue n) (patternValue x)
-  unfolding atLeast
-  below-number h = lt-true (patternValue n) (patternValue x) (not-false _ h)
+make-gt : (a b : ℤ) → Under b a → leZ a b ≡ false
+make-gt a b h = by (leZ a b) refl
+  where
+    by : (t : Bool) → leZ a b ≡ t → t ≡ false
+    by true e = absurd (omega (arith, le-true a b e))
+    by false e = refl
 
-  pub from-number : atLeast x n ≡ true → Upto (patternValue x) (patternValue n)
-  unfolding atLeast
-  from-number h = lt-false (patternValue n) (patternValue x) (not-true _ h)
-
-  passed-number : Upto (patternValue x) (patternValue n) → atLeast x n ≡ true
-  unfolding atLeast
-  passed-number h = ap not (make-ge (patternValue n) (patternValue x) h)
-
-  -- by the comparison that was made
-  pub told-below : {t : Bool} → t ≡ ltZ (patternValue n) (patternValue x) → t ≡ true → atLeast x n ≡ false
-  unfolding atLeast
-  told-below e h = ap not (sym e ∙ h)
-
-  pub told-not-below : {t : Bool} → t ≡ ltZ (patternValue n) (patternValue x) → t ≡ false → atLeast x n ≡ true
-  unfolding atLeast
-  told-not-below e h = ap not (sym e ∙ h)
-
-pub itself-passes : (x : ℕ) → atLeast x x ≡ true
-itself-passes x = passed-number x x (omega arith)
+not-made : {t : Bool} → t ≡ false → not t ≡ true
+not-made e = ap not e
 
 -- a greater offset passes too
-passes-later : (x m n : ℕ) → Upto (patternValue m) (patternValue n) → atLeast x m ≡ true → atLeast x n ≡ true
-passes-later x m n h t = passed-number x n (omega (arith, from-number x m t))
+passes-later : (s : Sought) (m n : ℕ) → Upto (patternValue m) (patternValue n) → passesOf s m ≡ true → passesOf s n ≡ true
+unfolding passesOf
+passes-later (AtLeast x) m n h t =
+    not-made (make-ge (patternValue n) (patternValue x) (omega (arith, lt-false (patternValue m) (patternValue x) (not-true _ t))))
+passes-later (Reaching q r) m n h t =
+    make-le (patternValue q) (patternValue n +ℤ patternValue r)
+    (omega (arith, le-true (patternValue q) (patternValue m +ℤ patternValue r) t, sum-parts (patternValue m) (patternValue r), sum-parts (patternValue n) (patternValue r)))
+passes-later (Beyond q r) m n h t =
+    not-made (make-gt (patternValue n) (patternValue q +ℤ patternValue r) (omega (arith, le-false (patternValue m) (patternValue q +ℤ patternValue r) (not-true _ t))))
 
 -- ---- the two halves
-abbrev pub Fails : (l : List ℕ) (x low : ℕ) → Type 0
-Fails l x low = (k : ℕ) → k < low → atLeast x (getD l k 0) ≡ false
+abbrev pub Fails : (l : List ℕ) (s : Sought) (low : ℕ) → Type 0
+Fails l s low = (k : ℕ) → k < low → passesOf s (getD l k 0) ≡ false
 
-abbrev pub Passes : (l : List ℕ) (x high : ℕ) → Type 0
-Passes l x high = (k : ℕ) → high ≤ k → k < length l → atLeast x (getD l k 0) ≡ true
+abbrev pub Passes : (l : List ℕ) (s : Sought) (high : ℕ) → Type 0
+Passes l s high = (k : ℕ) → high ≤ k → k < length l → passesOf s (getD l k 0) ≡ true
 
-module _ (l : List ℕ) (c : Checked l) (x middle : ℕ) (h : middle < length l) where
-  pub passes-from : atLeast x (getD l middle 0) ≡ true → Passes l x middle
-  passes-from t k m n = passes-later x _ _ (rising l c middle k m n) t
+module _ (l : List ℕ) (c : Checked l) (s : Sought) (middle : ℕ) (h : middle < length l) where
+  pub passes-from : passesOf s (getD l middle 0) ≡ true → Passes l s middle
+  passes-from t k m n = passes-later s _ _ (rising l c middle k m n) t
 
-  pub fails-upto : atLeast x (getD l middle 0) ≡ false → Fails l x (middle + 1)
-  fails-upto t k m = by (atLeast x (getD l k 0)) refl
+  pub fails-upto : passesOf s (getD l middle 0) ≡ false → Fails l s (middle + 1)
+  fails-upto t k m = by (passesOf s (getD l k 0)) refl
     where
-      by : (b : Bool) → atLeast x (getD l k 0) ≡ b → b ≡ false
-      by true e = absurd (never (sym (passes-later x _ _ (rising l c k middle (omega arith) h) e) ∙ t))
+      by : (b : Bool) → passesOf s (getD l k 0) ≡ b → b ≡ false
+      by true e = absurd (never (sym (passes-later s _ _ (rising l c k middle (omega arith) h) e) ∙ t))
       by false e = refl
 
+-- ---- the test that was told
+module _ {s : Sought} (n : ℕ) where
+  pub told-at-least : {x : ℕ} {t : Bool} → s ≡ AtLeast x → t ≡ ltZ (patternValue n) (patternValue x) → not t ≡ passesOf s n
+  unfolding passesOf
+  told-at-least e h = rw e (ap not h)
+
+  pub told-reaching : {q r : ℕ} {t : Bool} → s ≡ Reaching q r → t ≡ leZ (patternValue q) (patternValue n +ℤ patternValue r) → t ≡ passesOf s n
+  unfolding passesOf
+  told-reaching e h = rw e h
+
+  pub told-beyond : {q r : ℕ} {t : Bool} → s ≡ Beyond q r → t ≡ leZ (patternValue n) (patternValue q +ℤ patternValue r) → not t ≡ passesOf s n
+  unfolding passesOf
+  told-beyond e h = rw e (ap not h)
+
+pub reaching-finite : {s : Sought} {q r : ℕ} → s ≡ Reaching q r → soughtFinite s ≡ true → (finite q ≡ true) × (finite r ≡ true)
+reaching-finite {s} {q} {r} e h =
+    let k : finite q and finite r ≡ true = sym (ap soughtFinite e) ∙ h in
+    (and-left _ _ k, and-right _ _ k)
+
+pub beyond-finite : {s : Sought} {q r : ℕ} → s ≡ Beyond q r → soughtFinite s ≡ true → (finite q ≡ true) × (finite r ≡ true)
+beyond-finite {s} {q} {r} e h =
+    let k : finite q and finite r ≡ true = sym (ap soughtFinite e) ∙ h in
+    (and-left _ _ k, and-right _ _ k)
+
+-- ---- what the first test says of the values
+module _ (x n : ℕ) where
+  pub below-number : passesOf (AtLeast x) n ≡ false → Under (patternValue n) (patternValue x)
+  unfolding passesOf
+  below-number h = lt-true (patternValue n) (patternValue x) (not-false _ h)
+
+  pub from-number : passesOf (AtLeast x) n ≡ true → Upto (patternValue x) (patternValue n)
+  unfolding passesOf
+  from-number h = lt-false (patternValue n) (patternValue x) (not-true _ h)
+
+pub itself-passes : (x : ℕ) → passesOf (AtLeast x) x ≡ true
+unfolding passesOf
+itself-passes x = ap not (make-ge (patternValue x) (patternValue x) (omega arith))
+
 -- from the first position that passes on, all pass
-pub from-first : (l : List ℕ) → Checked l → (x : ℕ) → Passes l x (firstWhere (atLeast x) l)
-from-first l c x k h m = passes-from l c x (firstWhere (atLeast x) l) (omega arith) (first-passes (atLeast x) 0 l (omega arith)) k h m
+pub from-first : (l : List ℕ) → Checked l → (s : Sought) → Passes l s (firstWhere (passesOf s) l)
+from-first l c s k h m =
+    passes-from l c s (firstWhere (passesOf s) l) (omega arith) (first-passes (passesOf s) 0 l (omega arith)) k h m

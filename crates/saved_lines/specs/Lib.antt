@@ -1,3 +1,5 @@
 -- Offsets of saved lines as exact values, and what the calls of this crate answer.
 pub mod Offsets
+pub mod Searches
+pub mod Positions
 pub mod Lines

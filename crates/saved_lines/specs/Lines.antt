@@ -4,8 +4,7 @@ use mathlib.Core.Path.{_≡_}
 use mathlib.Core.Bool.{Bool, true, false, not}
 use mathlib.Core.List.{List}
 use lib.Dec.{leb}
-use lib.ListN.{length}
-use lib.Signed.{ltZ}
+use lib.ListN.{length, take, drop}
 use Rattle.theory.specs.Lists.{firstWhere, none}
 use Rattle.theory.specs.Tests.{_and_, unless}
 use Rattle.format.specs.Given.{Given, gives, refused, refusedAt, _then_}
@@ -15,7 +14,8 @@ use Rattle.saved_lines.specs.declared.Check.{Check}
 use Rattle.saved_lines.specs.declared.Check.the-variants as check
 use Rattle.saved_lines.specs.declared.LineAnswer.{LineAnswer}
 use Rattle.saved_lines.specs.declared.LineAnswer.the-variants as answer
-use Rattle.saved_lines.specs.Offsets.{nearest, descends}
+use Rattle.saved_lines.specs.Offsets.{nearest, isWithin, descends}
+use Rattle.saved_lines.specs.Positions.{positionsWhere, Lists}
 
 -- ---- the answers in the requests' numbers
 abbrev pub given : LineAnswer → Given ℕ
@@ -62,6 +62,23 @@ pub record Checked (l : List ℕ) : Type 0 where
 unfoldable pub nearestLine : (l : List ℕ) (query : ℕ) → Given ℕ
 nearestLine l query = linesChecked l (finite query) then λ _. gives (nearest (patternValues l) (patternValue query))
 
--- ---- the test of a search: is the value of n at least that of the number?
-unfoldable pub atLeast : (number n : ℕ) → Bool
-atLeast number n = not (ltZ (patternValue n) (patternValue number))
+-- the positions of all lines within the distance of the query
+abbrev pub linesFound : (l : List ℕ) (query distance : ℕ) → List ℕ
+linesFound l query distance = positionsWhere (isWithin (patternValue query) (patternValue distance)) (patternValues l)
+
+-- the answer of lines_within, where `room` is the length of the slice that is lent: 14 where more are found, else how many
+unfoldable pub linesWithin : (l : List ℕ) (query distance room : ℕ) → Given ℕ
+linesWithin l query distance room =
+    linesChecked l (finite query and finite distance)
+    then λ _. unless (leb (length (linesFound l query distance)) room) (refused 14) (gives (length (linesFound l query distance)))
+
+-- the slice held `old` and holds `new`, where n positions were found: they stand first, in any order, and the rest is unchanged
+pub record Listed (found : List ℕ) (n : ℕ) (old new : List ℕ) : Type 0 where
+  pub listed : Lists found (take n new)
+  pub rest : drop n new ≡ drop n old
+
+-- what the slice holds afterwards; a refusal changes nothing
+abbrev pub withinWritten : Given ℕ → (found old new : List ℕ) → Type 0
+withinWritten (gives n) found old new = Listed found n old new
+withinWritten (refused number) found old new = new ≡ old
+withinWritten (refusedAt number index) found old new = new ≡ old

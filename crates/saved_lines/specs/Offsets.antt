@@ -1,10 +1,11 @@
--- The offsets of saved lines as exact values, whole multiples of 2 ^ -149: their order, and the one nearest to a query.
+-- The offsets of saved lines as exact values, whole multiples of 2 ^ -149: their order, the one nearest to a
+-- query, and those within reach of it.
 use Prim.Native.Nat.{ℕ}
-use mathlib.Core.Bool.{Bool, not}
+use mathlib.Core.Bool.{Bool}
 use mathlib.Core.List.{List}
 use lib.Dec.{ltb}
-use lib.IntN.{ℤ, natAbs, _-ℤ_}
-use lib.Signed.{ltZ}
+use lib.IntN.{ℤ, pos, natAbs, _-ℤ_}
+use lib.Signed.{leZ, ltZ}
 use Rattle.theory.specs.Lists.{firstWhere, none, someNeighbours}
 
 -- |v - q|
@@ -22,6 +23,10 @@ isNearest vs q v = none (λ (w : ℤ). nearer q w v) vs
 -- the first position of the least distance from q
 unfoldable pub nearest : (vs : List ℤ) (q : ℤ) → ℕ
 nearest vs q = firstWhere (isNearest vs q) vs
+
+-- is v at most r away from q? Where r is below zero, nothing is
+unfoldable pub isWithin : (q r v : ℤ) → Bool
+isWithin q r v = leZ (pos (distance v q)) r
 
 -- is v above w?
 unfoldable pub falls : (v w : ℤ) → Bool

@@ -1,7 +1,8 @@
-// Saved lines: the one nearest to a query. Offsets are binary32 patterns, and every comparison is one of exact values.
+// Saved lines: the one nearest to a query, and those within reach. Offsets are binary32 patterns, and every comparison is one of exact values.
 pub mod checks;
 pub mod distances;
 pub mod nearest;
+pub mod reach;
 pub mod search;
 
 use format::Refusal;
@@ -13,9 +14,19 @@ pub enum Check {
     RefusedAt(Refusal, u32),
 }
 
-// A position.
+// A position, or a number of positions.
 pub enum LineAnswer {
     Found(u32),
     Refused(Refusal),
     RefusedAt(Refusal, u32),
+}
+
+// A test of an offset v that, on a list that ascends, fails up to some position and passes from there on.
+pub enum Sought {
+    // v is at least the number
+    AtLeast(u32),
+    // v + distance is at least the query
+    Reaching(u32, u32),
+    // v is above query + distance
+    Beyond(u32, u32),
 }

@@ -1,9 +1,10 @@
 // The line nearest to a query.
 use crate::Check;
 use crate::LineAnswer;
+use crate::Sought;
 use crate::checks::check_lines;
 use crate::distances::is_nearer;
-use crate::search::first_at_least;
+use crate::search::first_passing;
 use binary32::finite::is_finite;
 ghost use mathlib.Core.Path.{_≡_};
 ghost use mathlib.Core.Bool.{true};
@@ -16,7 +17,7 @@ fn nearest_position(offsets: &[u32], query: u32) -> usize
     requires { ⌜ Checked (now offsets) × (finite query ≡ true) ⌝ }
     ensures { λ r. ⌜ r ≡ nearest (patternValues (now (offsets .entry))) (patternValue query) ⌝ }
 {
-    let next = first_at_least(offsets, query);
+    let next = first_passing(offsets, Sought::AtLeast(query));
     if next == 0 {
         return 0;
     }
@@ -26,7 +27,7 @@ fn nearest_position(offsets: &[u32], query: u32) -> usize
             return next;
         }
     }
-    first_at_least(offsets, before)
+    first_passing(offsets, Sought::AtLeast(before))
 }
 
 // The position of the saved offset nearest to the query. Refuses 12, 9 (in the list with its index), 13.

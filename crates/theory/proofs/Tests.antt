@@ -24,6 +24,15 @@ pub and-made : {a b : Bool} → a ≡ true → b ≡ true → a and b ≡ true
 unfolding _and_
 and-made {a} {b} h k = rw (h, k, _and_)
 
+-- by the first of the two
+pub and-failed : {a : Bool} (b : Bool) → a ≡ false → a and b ≡ false
+unfolding _and_
+and-failed b h = rw (h, _and_)
+
+pub and-passed : {a : Bool} (b : Bool) → a ≡ true → a and b ≡ b
+unfolding _and_
+and-passed b h = rw (h, _and_)
+
 pub or-cases : (a b : Bool) → a or b ≡ true → (a ≡ true) ⊎ (b ≡ true)
 unfolding _or_
 or-cases true b h = inl refl

@@ -9,7 +9,7 @@ use Rattle.binary32.specs.Patterns.{finite}
 use Rattle.saved_lines.specs.declared.Check.the-variants.{Passed}
 use Rattle.saved_lines.specs.Lines.{checked, linesChecked, Checked}
 use Rattle.saved_lines.proofs.Checking.{passed-checks, nearest-after}
-use Rattle.saved_lines.proofs.AnswerLaws.{nearest-small}
+use Rattle.saved_lines.proofs.NearestAnswers.{nearest-small}
 use Rattle.saved_lines.proofs.nearest.nearest_line.Statement.{statement}
 use Rattle.saved_lines.proofs.nearest.nearest_line.Tie as tie
 

@@ -11,24 +11,24 @@ use Rattle.saved_lines.proofs.Positions.{next-most, found-first, found-
 use Rattle.saved_lines.proofs.nearest.nearest_position.Statement.{statement}
 use Rattle.saved_lines.proofs.nearest.nearest_position.Tie as tie
 
-abbrev start : tie.After-first-at-least → tie.Start
+abbrev start : tie.After-first-passing → tie.Start
 start n = n .before .before
 
-abbrev list : tie.After-first-at-least → List ℕ
+abbrev list : tie.After-first-passing → List ℕ
 list n = start n .args .offsets .now
 
-most : (n : tie.After-first-at-least) → n .first-at-least .result ≤ length (list n)
-most n = next-most (list n) (start n .pre .0) (start n .args .query) (n .first-at-least .ensures)
+most : (n : tie.After-first-passing) → n .first-passing .result ≤ length (list n)
+most n = next-most (list n) (start n .pre .0) (start n .args .query) (n .first-passing .ensures)
 
 returns : tie.Need-returns
 returns c =
     let n = c .before in
-    found-first (list n) (start n .pre .0) (start n .args .query) (n .first-at-least .ensures) (c .if1 .taken)
+    found-first (list n) (start n .pre .0) (start n .args .query) (n .first-passing .ensures) (c .if1 .taken)
 
 mul-before : tie.Need-mul-before
 mul-before c =
     let n = c .before in
-    let h : n .first-at-least .result ≤ length (list n) = most n in
+    let h : n .first-passing .result ≤ length (list n) = most n in
     search needs
 
 shared-slice-read-before : tie.Need-shared-slice-read-before
@@ -38,19 +38,19 @@ is-nearer-requires : tie.Need-is-nearer-requires
 is-nearer-requires c κs =
     let n = c .before .before .before .before in
     let f = finite-at (list n) (start n .pre .0) in
-    search (needs, f (n .first-at-least .result) (c .before .if2 .taken), f (n .first-at-least .result - 1) (omega (arith, most n)))
+    search (needs, f (n .first-passing .result) (c .before .if2 .taken), f (n .first-passing .result - 1) (omega (arith, most n)))
 
 returns-2 : tie.Need-returns-2
 returns-2 c =
     let t = c .before in
     let n = t .before .before .before .before .before in
-    found-right (list n) (start n .pre .0) (start n .args .query) (n .first-at-least .ensures) (t .before .before .if2 .taken) (sym (t .is-nearer .ensures) ∙ c .if3 .taken)
+    found-right (list n) (start n .pre .0) (start n .args .query) (n .first-passing .ensures) (t .before .before .if2 .taken) (sym (t .is-nearer .ensures) ∙ c .if3 .taken)
 
 returns-3 : tie.Need-returns-3
 returns-3 c =
     let j = c .before in
     let n = j .before .before .before in
-    found-left (list n) (start n .pre .0) (start n .args .query) (n .first-at-least .ensures) (omega arith) (c .first-at-least2 .ensures)
+    found-left (list n) (start n .pre .0) (start n .args .query) (n .first-passing .ensures) (omega arith) (c .first-passing2 .ensures)
     (λ h. ⊎-elim (λ w. sym (w .2 .ensures) ∙ w .3 .left) (λ w. absurd (omega (arith, h, w .left))) (j .if2 .came))
 
 pub nearest-position-spec : {M : Type 1} → statement M

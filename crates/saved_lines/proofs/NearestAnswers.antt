@@ -1,0 +1,65 @@
+-- What nearest_line answers, in the words of request 2.
+use Prim.Native.Nat.{ℕ, _≤_, _<_, _^_}
+use mathlib.Core.Path.{_≡_, sym, _∙_}
+use mathlib.Core.Bool.{true}
+use mathlib.Core.List.{List}
+use native.Mathlib.Omega.{arith}
+use lib.IntN.{ℤ}
+use lib.ListN.{length}
+use lib.Signed.{_≤ℤ_}
+use Rattle.format.specs.Given.{Given, gives}
+use Rattle.binary32.specs.Patterns.{finite, patternValue, patternValues}
+use Rattle.binary32.proofs.PatternValues.{value-at, values-length}
+use Rattle.saved_lines.specs.Offsets.{distance, nearest}
+use Rattle.saved_lines.specs.Lines.{Checked, nearestLine}
+use Rattle.saved_lines.proofs.NearestLaws.{nearest-position, nearest-least, equal-first, smaller-wins}
+use Rattle.saved_lines.proofs.Refusals.{offset, TurnedAway, checks-end}
+
+-- how far it is from the query
+abbrev pub away : List ℕ → (q k : ℕ) → ℕ
+away l q k = distance (offset l k) (patternValue q)
+
+-- ---- n is the line nearest to the query q
+pub record Nearest (l : List ℕ) (q n : ℕ) : Type 0 where
+  pub position : n < length l
+  pub none-nearer : (k : ℕ) → k < length l → away l q n ≤ away l q k
+  pub smaller-wins : (k : ℕ) → k < length l → away l q k ≡ away l q n → offset l n ≤ℤ offset l k
+  pub first-wins : (k : ℕ) → offset l k ≡ offset l n → n ≤ k
+
+pub nearest-is-nearest : (l : List ℕ) (q : ℕ) → Checked l → Nearest l q (nearest (patternValues l) (patternValue q))
+nearest-is-nearest l q c =
+    record {
+      position = omega (arith, nearest-position vs v some, values-length l);
+      none-nearer = λ k h. rw (← value-at l n, ← value-at l k) (nearest-least vs v some k (omega (arith, values-length l)));
+      smaller-wins = λ k h e.
+          rw (← value-at l n, ← value-at l k)
+          (smaller-wins vs v (c .order) k (omega (arith, values-length l)) (rw (← value-at l n, ← value-at l k) at e));
+      first-wins = λ k e. equal-first vs v some k (value-at l k ∙ e ∙ sym (value-at l n));
+    }
+  where
+    vs : List ℤ
+    vs = patternValues l
+
+    v : ℤ
+    v = patternValue q
+
+    n : ℕ
+    n = nearest (patternValues l) (patternValue q)
+
+    some : 1 ≤ length (patternValues l)
+    some = omega (arith, values-length l, c .some)
+
+-- it fits 32 bits
+pub nearest-small : (l : List ℕ) (q : ℕ) → Checked l → {n : ℕ} → n ≡ nearest (patternValues l) (patternValue q) → n < 2 ^ 32
+nearest-small l q c e = omega (arith, nearest-is-nearest l q c .position, c .most)
+
+-- ---- the ends of a call
+pub data Ends (l : List ℕ) (q : ℕ) : Given ℕ → Type 0 where
+  turned-away : {x : Given ℕ} → TurnedAway l (finite q) x → Ends l q x
+  found : {n : ℕ} → Checked l → finite q ≡ true → Nearest l q n → Ends l q (gives n)
+
+pub nearest-ends : (l : List ℕ) (q : ℕ) → Ends l q (nearestLine l q)
+unfolding nearestLine
+nearest-ends l q =
+    checks-end l (finite q) (λ _. gives (nearest (patternValues l) (patternValue q))) (Ends l q) (λ x a. turned-away a)
+    (λ c g. found c g (nearest-is-nearest l q c))

@@ -1,0 +1,106 @@
+-- What lines_within answers and writes, in the words of request 5.
+use Prim.Native.Nat.{ℕ, _+_, _≤_, _<_}
+use mathlib.Core.Path.{_≡_, refl, sym, ap, subst, _∙_}
+use mathlib.Core.Bool.{Bool, true, false}
+use mathlib.Core.List.{List, []}
+use native.Mathlib.Omega.{arith}
+use lib.Dec.{leb}
+use lib.IntN.{ℤ, pos}
+use lib.ListN.{length}
+use lib.Signed.{leZ, _≤ℤ_, _<ℤ_}
+use borrow.Author.Tests.{leb-true, leb-false, le-leb}
+use Rattle.theory.specs.Tests.{_and_, unless}
+use Rattle.theory.proofs.Integers.{above, below, parts-le, parts-eq, le-parts, lt-parts}
+use Rattle.theory.proofs.Tests.{unless-passed}
+use Rattle.format.specs.Given.{Given, gives, refused, _then_}
+use Rattle.format.proofs.Signed.{le-true, make-le}
+use Rattle.binary32.specs.Patterns.{finite, patternValue, patternValues}
+use Rattle.binary32.proofs.PatternValues.{value-at, values-length}
+use Rattle.saved_lines.specs.Offsets.{distance, isWithin}
+use Rattle.saved_lines.specs.Positions.{Among}
+use Rattle.saved_lines.specs.Lines.{linesChecked, Checked, linesFound, linesWithin}
+use Rattle.saved_lines.proofs.DistanceLaws.{distance-is}
+use Rattle.saved_lines.proofs.NearestLaws.{at}
+use Rattle.saved_lines.proofs.PositionLists.{position-found, Passing, found-position, positions-none}
+use Rattle.saved_lines.proofs.Refusals.{offset, TurnedAway, checks-end}
+
+module _ (l : List ℕ) (q d : ℕ) where
+  -- ---- the positions found are those of the lines at most the distance away
+  pub record Within (n : ℕ) : Type 0 where
+    pub position : n < length l
+    pub near : pos (distance (offset l n) (patternValue q)) ≤ℤ patternValue d
+
+  pub within-is-found : (n : ℕ) → Within n → Among n (linesFound l q d)
+  unfolding isWithin
+  within-is-found n w =
+      let none-before : 0 + n ≡ n = omega arith in
+      subst (λ (m : ℕ). Among m (linesFound l q d)) none-before
+      (position-found (isWithin (patternValue q) (patternValue d)) (pos 0) (patternValues l) 0 n (omega (arith, w .position, values-length l))
+      (rw (value-at l n) (make-le (pos (distance (offset l n) (patternValue q))) (patternValue d) (le-parts (w .near)))))
+
+  pub found-is-within : (n : ℕ) → Among n (linesFound l q d) → Within n
+  unfolding isWithin
+  found-is-within n a =
+      let p = found-position (isWithin (patternValue q) (patternValue d)) (pos 0) (patternValues l) 0 (a .place) (a .inside) in
+      subst Within (sym (p .is ∙ omega arith) ∙ a .is) (passing p)
+    where
+      passing : {m : ℕ} (p : Passing (isWithin (patternValue q) (patternValue d)) (pos 0) (patternValues l) 0 m) → Within (p .place)
+      passing p =
+          record {
+            position = omega (arith, p .inside, values-length l);
+            near = rw (← value-at l (p .place)) (parts-le (pos (distance (at (patternValues l) (p .place)) (patternValue q))) (patternValue d) (le-true (pos (distance (at (patternValues l) (p .place)) (patternValue q))) (patternValue d) (p .passes)));
+          }
+
+  -- a distance below zero finds none
+  pub below-zero-none : patternValue d <ℤ pos 0 → linesFound l q d ≡ []
+  unfolding isWithin
+  below-zero-none h = positions-none (isWithin (patternValue q) (patternValue d)) (pos 0) 0 (patternValues l) (λ k m. far (at (patternValues l) k))
+    where
+      far : (v : ℤ) → leZ (pos (distance v (patternValue q))) (patternValue d) ≡ false
+      far v = by (leZ (pos (distance v (patternValue q))) (patternValue d)) refl
+        where
+          by : (t : Bool) → leZ (pos (distance v (patternValue q))) (patternValue d) ≡ t → t ≡ false
+          by true e = absurd (omega (arith, le-true (pos (distance v (patternValue q))) (patternValue d) e, lt-parts h))
+          by false e = refl
+
+  -- a distance of zero finds the offsets equal to the query
+  pub zero-equal : patternValue d ≡ pos 0 → (n : ℕ) → Within n → offset l n ≡ patternValue q
+  zero-equal z n w = parts-eq (offset l n) (patternValue q) (omega (arith, le-parts (rw z at (w .near)), distance-is (offset l n) (patternValue q)))
+
+  pub equal-zero : patternValue d ≡ pos 0 → (n : ℕ) → n < length l → offset l n ≡ patternValue q → Within n
+  equal-zero z n h e =
+      record {
+        position = h;
+        near = rw z (parts-le (pos (distance (offset l n) (patternValue q))) (pos 0) (omega (arith, distance-is (offset l n) (patternValue q), ap above e, ap below e)));
+      }
+
+-- ---- the ends of a call
+pub data Ends (l : List ℕ) (q d room : ℕ) : Given ℕ → Type 0 where
+  turned-away : {x : Given ℕ} → TurnedAway l (finite q and finite d) x → Ends l q d room x
+  too-short : Checked l → finite q and finite d ≡ true → room < length (linesFound l q d) → Ends l q d room (refused 14)
+  found : Checked l → finite q and finite d ≡ true → length (linesFound l q d) ≤ room → Ends l q d room (gives (length (linesFound l q d)))
+
+pub within-ends : (l : List ℕ) (q d room : ℕ) → Ends l q d room (linesWithin l q d room)
+unfolding linesWithin unless
+within-ends l q d room =
+    checks-end l (finite q and finite d) (λ _. unless (leb count room) (refused 14) (gives count)) (Ends l q d room) (λ x a. turned-away a)
+    (λ c g. by c g (leb count room) refl)
+  where
+    count : ℕ
+    count = length (linesFound l q d)
+
+    by : Checked l → finite q and finite d ≡ true → (t : Bool) → leb count room ≡ t → Ends l q d room (unless t (refused 14) (gives count))
+    by c g true e = found c g (leb-true count room e)
+    by c g false e = too-short c g (leb-false count room e)
+
+-- a distance below zero never gives 14: after the checks it finds none
+pub below-zero-answers : (l : List ℕ) (q d room : ℕ) → patternValue d <ℤ pos 0
+    → linesWithin l q d room ≡ (linesChecked l (finite q and finite d) then λ _. gives 0)
+unfolding linesWithin
+below-zero-answers l q d room h = ap (λ (x : Given ℕ). linesChecked l (finite q and finite d) then (λ _. x)) none
+  where
+    count : length (linesFound l q d) ≡ 0
+    count = ap length (below-zero-none l q d h)
+
+    none : unless (leb (length (linesFound l q d)) room) (refused 14) (gives (length (linesFound l q d))) ≡ gives 0
+    none = unless-passed _ _ (le-leb (length (linesFound l q d)) room (omega (arith, count))) ∙ ap gives count
