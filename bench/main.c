@@ -8,6 +8,7 @@
 #include "operands.h"
 #include "peers.h"
 #include "programs.h"
+#include "receivers.h"
 #include "timing.h"
 
 const our_call our_calls[OPERATIONS] = {zurkeb_sum, zurkeb_product, zurkeb_quotient};
@@ -267,6 +268,7 @@ int main(void) {
     three_steps(&settings[0]);
     all_patterns(&settings[0]);
     time_lines();
+    time_receivers();
     if (!time_programs())
         printf("\nplaces or cat did not run\n");
     return 0;

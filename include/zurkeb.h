@@ -28,7 +28,8 @@ enum zurkeb_refusal {
     ZURKEB_LENGTHS_DIFFER = 11,
     ZURKEB_LIST_LENGTH = 12, /* empty, or longer than 4,096 */
     ZURKEB_LIST_DESCENDS = 13,
-    ZURKEB_OUT_TOO_SHORT = 14
+    ZURKEB_OUT_TOO_SHORT = 14,
+    ZURKEB_STRETCH_OUTSIDE = 17
 };
 
 /* The directions of rounding: a call takes their numbers. */
@@ -99,6 +100,13 @@ typedef struct zurkeb_reach_answer {
     uint32_t index;   /* of the first bad pattern in the list, beside refusal 9 */
 } zurkeb_reach_answer;
 
+typedef struct zurkeb_stretch_answer {
+    uint32_t refusal;
+    uint32_t log;     /* 1 the first, 2 the second */
+    uint32_t indexed; /* 1 where an index comes with the refusal */
+    uint64_t index;   /* of the first pattern that is refused by 9, counted from its log's start */
+} zurkeb_stretch_answer;
+
 #ifdef __cplusplus
 #define ZURKEB_SIZE(type, size) static_assert(sizeof(type) == (size), #type)
 #else
@@ -114,6 +122,7 @@ ZURKEB_SIZE(zurkeb_check_answer, 8);
 ZURKEB_SIZE(zurkeb_slices_answer, 16);
 ZURKEB_SIZE(zurkeb_position_answer, 16);
 ZURKEB_SIZE(zurkeb_reach_answer, 16);
+ZURKEB_SIZE(zurkeb_stretch_answer, 24);
 #undef ZURKEB_SIZE
 
 /* Is the format admitted? 0, or 1. */
@@ -173,6 +182,12 @@ uint64_t zurkeb_pattern_quotient(uint32_t a, uint32_t b, uint32_t direction);
  * entry; a refused call leaves out as it was. out must not overlap a or b. */
 zurkeb_slices_answer zurkeb_sum_slices(const uint32_t *a, size_t a_length, const uint32_t *b, size_t b_length, uint32_t *out,
                                        size_t out_length, uint32_t direction);
+/* Which of two logs of binary32 patterns is calmer in the stretch of `length` entries from `start` on: the one with the smaller exact
+ * difference between its greatest and its least value there, the first if equal. Patterns outside the stretch have no influence.
+ * Refuses 11 for unequal logs; 17 where the length is zero or the stretch runs past the end; 9 within the stretch with its index, the
+ * first log before the second. */
+zurkeb_stretch_answer zurkeb_calmer_stretch(const uint32_t *first, size_t first_length, const uint32_t *second, size_t second_length,
+                                            size_t start, size_t length);
 
 /* Saved lines: offsets are binary32 patterns, ascending by value, at most 4,096. Distances are exact. */
 /* The position of the offset nearest to the query; at equal distance the smaller offset, among equal offsets the first. Refuses 12,

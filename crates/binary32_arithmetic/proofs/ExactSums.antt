@@ -62,17 +62,18 @@ placed-more n l h = record { canonical = h .canonical; place-most = omega (arith
 pub value-wide : {k : ℕ} {x : Wide} → Placed k x → WideZ 2 24 (valueOf 2 x)
 value-wide {x = x} h = rw (size-signed (x .negative) (sizeOf 2 x)) (canonical-wide binary-24 (h .canonical))
 
+-- ---- a sum, rounded in any direction
+pub sum-placed : (d : Direction) (x y : Wide) {k : ℕ} → Placed k x → Placed k y → Placed (k + 1) (summed 2 24 d x y)
+sum-placed d x y {k} h g =
+    record {
+      canonical = summed-result binary-24 d x y .canonical;
+      place-most = summed-place binary-24 d x y (h .canonical) (g .canonical) k (h .place-most) (g .place-most);
+    }
+
 -- ---- the sum, rounded down
 module _ (x y : Wide) where
   pub down-value : valueOf 2 (summed 2 24 Downward x y) ≡ roundZ 2 24 downward (valueOf 2 x +ℤ valueOf 2 y) 1
   down-value = summed-value binary-24 Downward x y
-
-  pub down-placed : {k : ℕ} → Placed k x → Placed k y → Placed (k + 1) (summed 2 24 Downward x y)
-  down-placed {k} h g =
-      record {
-        canonical = summed-result binary-24 Downward x y .canonical;
-        place-most = summed-place binary-24 Downward x y (h .canonical) (g .canonical) k (h .place-most) (g .place-most);
-      }
 
   -- a result below zero is one that is not zero
   down-minus : summed 2 24 Downward x y .negative ≡ true → Under (valueOf 2 (summed 2 24 Downward x y)) (pos 0)
@@ -188,7 +189,7 @@ pattern-holds n h {q} e {x} f {w} g = rw (g, e, f) (record { placed = there; val
 
 -- ---- what the code hands on
 pub low-placed : (a b : Wide) → Placed 260 a → Placed 260 b → {r : Wide} → r ≡ summed 2 24 Downward a b → Placed 300 r
-low-placed a b h g e = rw e (placed-more 300 (omega arith) (down-placed a b h g))
+low-placed a b h g e = rw e (placed-more 300 (omega arith) (sum-placed Downward a b h g))
 
 pub turned-placed : {k : ℕ} {c m : Wide} (n : ℕ) → k ≤ n → Placed k c → m ≡ turned c → Placed n m
 turned-placed n l h e = rw e (record { canonical = h .canonical; place-most = omega (arith, h .place-most) })

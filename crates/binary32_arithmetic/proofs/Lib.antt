@@ -6,4 +6,5 @@ pub mod Passes
 pub mod CallLaws
 pub mod SliceLaws
 pub mod ExactSums
+pub mod Splitting
 pub mod Agreement

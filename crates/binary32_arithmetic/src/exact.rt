@@ -1,5 +1,6 @@
-// Exact comparisons of sums, by sums that are rounded down in the wide format: a sum rounded down is at least a number of the format
-// exactly where the sum is.
+// Exact comparisons of sums. A sum and a number: by sums that are rounded down in the wide format, since a sum rounded down is at least
+// a number of the format exactly where the sum is. Two sums: by three-step sums to nearest, which leave no error.
+use crate::Parts;
 use binary32::patterns::read_finite;
 use binary32::prepared::prepared_binary32;
 use format::Direction;
@@ -8,15 +9,16 @@ use prepared_arithmetic::operands::wide_of;
 use wide::Wide;
 ghost use mathlib.Core.Path.{_≡_};
 ghost use mathlib.Core.Bool.{true};
-ghost use lib.IntN.{_+ℤ_};
+ghost use lib.IntN.{_+ℤ_, natAbs};
 ghost use lib.Signed.{leZ, ltZ};
-ghost use Rattle.format.specs.declared.Direction.the-variants.{Downward};
+ghost use Rattle.format.specs.declared.Direction.the-variants.{Downward, NearestEven};
+ghost use Prim.Native.Nat.{_≤_};
 ghost use Rattle.format.specs.Formats.{scaleOf};
 ghost use Rattle.format.specs.Published.{binary32};
 ghost use Rattle.wide.specs.Operand.{valueOf};
 ghost use Rattle.wide.specs.Sum.{summed};
 ghost use Rattle.binary32.specs.Patterns.{finite, patternValue};
-ghost use Rattle.binary32_arithmetic.specs.Exact.{Placed, Holds, turned};
+ghost use Rattle.binary32_arithmetic.specs.Exact.{Placed, Holds, turned, zeroWide, Splits, splitUpto};
 
 // 24 binary digits.
 pub fn binary32_scale() -> Scale
@@ -116,4 +118,77 @@ pub fn exceeds_twice(a: u32, b: u32, c: u32) -> bool
     ensures { λ r. ⌜ r ≡ ltZ (patternValue c +ℤ patternValue c) (patternValue a +ℤ patternValue b) ⌝ }
 {
     sum_exceeds(read_wide(a), read_wide(b), doubled(read_wide(c)))
+}
+
+// x + y, rounded to nearest.
+fn sum_nearest(x: Wide, y: Wide) -> Wide
+    requires { ⌜ Placed 300 x × Placed 300 y ⌝ }
+    ensures { λ r. ⌜ r ≡ summed 2 24 NearestEven x y ⌝ }
+{
+    wide_sum::sum(binary32_scale(), Direction::NearestEven, x, y)
+}
+
+// a + b in three steps, where b is not greater than a in magnitude.
+fn split_ordered(a: Wide, b: Wide) -> Parts
+    requires { ⌜ Placed 253 a × Placed 253 b × (natAbs (valueOf 2 b) ≤ natAbs (valueOf 2 a)) ⌝ }
+    ensures { λ r. ⌜ Splits (valueOf 2 a +ℤ valueOf 2 b) r ⌝ }
+{
+    let x = sum_nearest(a, b);
+    let z = sum_nearest(x, negated(a));
+    let y = sum_nearest(b, negated(z));
+    Parts { high: x, low: y }
+}
+
+// a + b in three steps, from the one that is greater in magnitude. Both are finite patterns.
+fn split(a: u32, b: u32) -> Parts
+    requires { ⌜ (finite a ≡ true) × (finite b ≡ true) ⌝ }
+    ensures { λ r. ⌜ Splits (patternValue a +ℤ patternValue b) r ⌝ }
+{
+    if a % 2147483648 < b % 2147483648 {
+        return split_ordered(read_wide(b), read_wide(a));
+    }
+    split_ordered(read_wide(a), read_wide(b))
+}
+
+fn zero() -> Wide
+    ensures { λ r. ⌜ r ≡ zeroWide ⌝ }
+{
+    Wide {
+        negative: false,
+        significand: 0,
+        place: 0,
+    }
+}
+
+// Is a at most b?
+fn is_upto(a: Wide, b: Wide) -> bool
+    requires { ⌜ Placed 260 a × Placed 260 b ⌝ }
+    ensures { λ r. ⌜ r ≡ leZ (valueOf 2 a) (valueOf 2 b) ⌝ }
+{
+    sum_reaches(b, zero(), a)
+}
+
+// Is the sum a at most the sum b? The rests decide where the rounded sums are equal.
+fn parts_upto(a: Parts, b: Parts) -> bool
+    requires { ⌜ Placed 260 (a .high) × Placed 260 (a .low) × Placed 260 (b .high) × Placed 260 (b .low) ⌝ }
+    ensures { λ r. ⌜ r ≡ splitUpto a b ⌝ }
+{
+    let high = a.high;
+    let other = b.high;
+    if !is_upto(high, other) {
+        return false;
+    }
+    if !is_upto(other, high) {
+        return true;
+    }
+    let low = a.low;
+    is_upto(low, b.low)
+}
+
+// Is a + b at most c + d? All are finite patterns.
+pub fn sums_upto(a: u32, b: u32, c: u32, d: u32) -> bool
+    requires { ⌜ (finite a ≡ true) × (finite b ≡ true) × (finite c ≡ true) × (finite d ≡ true) ⌝ }
+    ensures { λ r. ⌜ r ≡ leZ (patternValue a +ℤ patternValue b) (patternValue c +ℤ patternValue d) ⌝ }
+{
+    parts_upto(split(a, b), split(c, d))
 }

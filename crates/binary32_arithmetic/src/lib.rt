@@ -7,6 +7,7 @@ pub mod slices;
 
 use format::Refusal;
 use number::Number;
+use wide::Wide;
 
 // Two numbers that were read.
 pub struct Pair {
@@ -33,4 +34,10 @@ pub enum SliceAnswer {
     Done,
     Refused(Refusal),
     RefusedAt(Refusal, usize),
+}
+
+// A sum of two patterns without an error: the sum rounded to nearest, and what that leaves.
+pub struct Parts {
+    pub high: Wide,
+    pub low: Wide,
 }

@@ -30,6 +30,7 @@ use Rattle.c_answers.specs.declared.CheckAnswer.{CheckAnswer}
 use Rattle.c_answers.specs.declared.SlicesAnswer.{SlicesAnswer}
 use Rattle.c_answers.specs.declared.PositionAnswer.{PositionAnswer}
 use Rattle.c_answers.specs.declared.ReachAnswer.{ReachAnswer}
+use Rattle.c_answers.specs.declared.StretchAnswer.{StretchAnswer}
 
 abbrev pub noNumber : Number
 noNumber = record { negative = false; significand = 0; exponent = pos 0 }
@@ -85,3 +86,9 @@ abbrev pub reachOut : Given ℕ → ReachAnswer
 reachOut (gives n) = record { refusal = 0; found = n; indexed = 0; index = 0 }
 reachOut (refused number) = record { refusal = number; found = 0; indexed = 0; index = 0 }
 reachOut (refusedAt number index) = record { refusal = number; found = 0; indexed = 1; index = index }
+
+-- the calmer log by its number; indexed is 1 where an index comes with the refusal
+abbrev pub stretchOut : Given ℕ → StretchAnswer
+stretchOut (gives log) = record { refusal = 0; log = log; indexed = 0; index = 0 }
+stretchOut (refused number) = record { refusal = number; log = 0; indexed = 0; index = 0 }
+stretchOut (refusedAt number index) = record { refusal = number; log = 0; indexed = 1; index = index }

@@ -14,8 +14,10 @@ use number::Number;
 use number::Ordered;
 use saved_lines::LineAnswer;
 ghost use mathlib.Core.Path.{_≡_};
-ghost use Rattle.c_answers.specs.Answers.{verdictOut, numberOut, orderOut, publishedOut, stepsOut, checkOut, patternOut, slicesOut, positionOut, reachOut};
+ghost use Rattle.c_answers.specs.Answers.{verdictOut, numberOut, orderOut, publishedOut, stepsOut, checkOut, patternOut, slicesOut, positionOut, reachOut, stretchOut};
 ghost use Rattle.saved_lines.specs.Lines.{given};
+use receivers::Calmer;
+ghost use Rattle.receivers.specs.Answers.{calmerGiven};
 
 #[repr(C)]
 pub struct NumberAnswer {
@@ -72,6 +74,15 @@ pub struct ReachAnswer {
     pub found: u32,
     pub indexed: u32,
     pub index: u32,
+}
+
+// The log is 1 or 2; indexed is 1 beside refusal 9, which has an index.
+#[repr(C)]
+pub struct StretchAnswer {
+    pub refusal: u32,
+    pub log: u32,
+    pub indexed: u32,
+    pub index: u64,
 }
 
 pub fn verdict_out(verdict: Verdict) -> u32
@@ -274,6 +285,37 @@ pub fn reach_out(answer: LineAnswer) -> ReachAnswer
             found: 0,
             indexed: 1,
             index: index,
+        }
+    }
+}
+
+pub fn stretch_out(answer: Calmer) -> StretchAnswer
+    ensures { λ r. ⌜ r ≡ stretchOut (calmerGiven answer) ⌝ }
+{
+    match answer {
+        Calmer::First => StretchAnswer {
+            refusal: 0,
+            log: 1,
+            indexed: 0,
+            index: 0,
+        },
+        Calmer::Second => StretchAnswer {
+            refusal: 0,
+            log: 2,
+            indexed: 0,
+            index: 0,
+        },
+        Calmer::Refused(why) => StretchAnswer {
+            refusal: refusal_number(why),
+            log: 0,
+            indexed: 0,
+            index: 0,
+        },
+        Calmer::RefusedAt(why, at) => StretchAnswer {
+            refusal: refusal_number(why),
+            log: 0,
+            indexed: 1,
+            index: at as u64,
         },
     }
 }

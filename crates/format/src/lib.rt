@@ -33,6 +33,7 @@ pub enum Refusal {
     ListLength,
     ListDescends,
     OutTooShort,
+    StretchOutside,
 }
 
 // The five directions, in the order of their numbers 0 to 4.

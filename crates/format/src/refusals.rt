@@ -22,5 +22,6 @@ pub fn refusal_number(refusal: Refusal) -> u32
         Refusal::ListLength => 12,
         Refusal::ListDescends => 13,
         Refusal::OutTooShort => 14,
+        Refusal::StretchOutside => 17,
     }
 }

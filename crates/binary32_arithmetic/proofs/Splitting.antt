@@ -1,0 +1,159 @@
+-- Sums to nearest without an error, and the order of two sums by their parts.
+use Prim.Native.Nat.{ℕ, _+_, _%_, _^_, _≤_}
+use mathlib.Core.Path.{_≡_, refl, sym, ap, subst, _∙_}
+use mathlib.Core.Bool.{Bool, true, false, not, cond}
+use mathlib.Core.Logic.{inl}
+use native.Mathlib.Omega.{arith}
+use lib.IntN.{ℤ, pos, negℤ, natAbs, _+ℤ_, _-ℤ_, _*ℤ_}
+use lib.Signed.{leZ}
+use Rattle.theory.specs.Round.{nearest-even}
+use Rattle.theory.specs.Signed.{roundZ}
+use Rattle.theory.specs.FastTwoSum.{Triple}
+use Rattle.theory.proofs.Integers.{above, below, sum-parts, diff-parts, neg-above, neg-below, negate-signed, size-signed, le-parts, parts-eq, parts-scale-le, scale-above, scale-below}
+use Rattle.theory.proofs.Round.{to-even}
+use Rattle.theory.proofs.Signed.{roundZ-mono}
+use Rattle.theory.proofs.FastTwoSum.{nearest-exact, rounded-triple}
+use Rattle.theory.proofs.Tests.{denied, granted}
+use Rattle.format.specs.declared.Direction.the-variants.{NearestEven}
+use Rattle.format.proofs.Signed.{Upto, le-true, le-false}
+use Rattle.wide.specs.declared.Wide.{Wide}
+use Rattle.wide.specs.Operand.{sizeOf, valueOf}
+use Rattle.wide.specs.Sum.{summed}
+use Rattle.wide.proofs.Results.{summed-value}
+use Rattle.binary32.specs.Patterns.{signOf, magnitudeRead, patternValue}
+use Rattle.binary32.proofs.PatternOrder.{magnitude-most}
+use Rattle.binary32_arithmetic.specs.declared.Parts.{Parts}
+use Rattle.binary32_arithmetic.specs.Exact.{Placed, turned, zeroWide, Splits, splitUpto}
+use Rattle.binary32_arithmetic.proofs.ExactSums.{binary-24, value-wide, placed-more, sum-placed}
+
+-- ---- a sum to nearest
+near-value : (x y : Wide) → valueOf 2 (summed 2 24 NearestEven x y) ≡ roundZ 2 24 nearest-even (valueOf 2 x +ℤ valueOf 2 y) 1
+near-value x y = summed-value binary-24 NearestEven x y
+
+turned-here : {k : ℕ} (c : Wide) → Placed k c → {m : Wide} → m ≡ turned c → Placed k m
+turned-here c h e = rw e (record { canonical = h .canonical; place-most = h .place-most })
+
+minus : (c : Wide) {m : Wide} → m ≡ turned c → valueOf 2 m ≡ negℤ (valueOf 2 c)
+minus c e = rw e (sym (negate-signed (c .negative) (sizeOf 2 c)))
+
+less : (u v : ℤ) {w : ℤ} → w ≡ negℤ v → u +ℤ w ≡ u -ℤ v
+less u v e =
+    rw e (parts-eq (u +ℤ negℤ v) (u -ℤ v) (omega (arith, sum-parts u (negℤ v), diff-parts u v, neg-above v, neg-below v)))
+
+-- ---- three steps
+module _ (a b : Wide) (ha : Placed 253 a) (hb : Placed 253 b) {x : Wide} (ex : x ≡ summed 2 24 NearestEven a b) where
+  x-placed : Placed 254 x
+  x-placed = rw ex (sum-placed NearestEven a b ha hb)
+
+  module _ {m : Wide} (em : m ≡ turned a) where
+    m-placed : Placed 254 m
+    m-placed = turned-here a (placed-more 254 (omega arith) ha) em
+
+    pub second-placed : Placed 300 x × Placed 300 m
+    second-placed = (placed-more 300 (omega arith) x-placed, placed-more 300 (omega arith) m-placed)
+
+    module _ {z : Wide} (ez : z ≡ summed 2 24 NearestEven x m) where
+      z-placed : Placed 255 z
+      z-placed = rw ez (sum-placed NearestEven x m x-placed m-placed)
+
+      module _ {w : Wide} (ew : w ≡ turned z) where
+        w-placed : Placed 255 w
+        w-placed = turned-here z z-placed ew
+
+        pub third-placed : Placed 300 b × Placed 300 w
+        third-placed = (placed-more 300 (omega arith) hb, placed-more 300 (omega arith) w-placed)
+
+        module _ (order : natAbs (valueOf 2 b) ≤ natAbs (valueOf 2 a)) {y : Wide} (ey : y ≡ summed 2 24 NearestEven b w) where
+          y-placed : Placed 256 y
+          y-placed = rw ey (sum-placed NearestEven b w (placed-more 255 (omega arith) hb) w-placed)
+
+          x-is : valueOf 2 x ≡ roundZ 2 24 nearest-even (valueOf 2 a +ℤ valueOf 2 b) 1
+          x-is = ap (valueOf 2) ex ∙ near-value a b
+
+          z-is : valueOf 2 z ≡ roundZ 2 24 nearest-even (valueOf 2 x -ℤ valueOf 2 a) 1
+          z-is =
+              ap (valueOf 2) ez
+              ∙ near-value x m
+              ∙ ap (λ (v : ℤ). roundZ 2 24 nearest-even v 1) (less (valueOf 2 x) (valueOf 2 a) (minus a em))
+
+          y-is : valueOf 2 y ≡ roundZ 2 24 nearest-even (valueOf 2 b -ℤ valueOf 2 z) 1
+          y-is =
+              ap (valueOf 2) ey
+              ∙ near-value b w
+              ∙ ap (λ (v : ℤ). roundZ 2 24 nearest-even v 1) (less (valueOf 2 b) (valueOf 2 z) (minus z ew))
+
+          triple : Triple 24 (valueOf 2 a) (valueOf 2 b) (valueOf 2 x) (valueOf 2 z) (valueOf 2 y)
+          triple =
+              rounded-triple binary-24 nearest-even nearest-even nearest-even (valueOf 2 a) (valueOf 2 b) (value-wide ha) (value-wide hb) order x-is z-is y-is
+
+          pub split-made : Splits (valueOf 2 a +ℤ valueOf 2 b) (record { high = x; low = y })
+          split-made =
+              record {
+                high-placed = placed-more 260 (omega arith) x-placed;
+                low-placed = placed-more 260 (omega arith) y-placed;
+                high-is = x-is;
+                exact = nearest-exact binary-24 triple to-even x-is;
+              }
+
+-- ---- from patterns
+pub in-order : (a b : ℕ) {v w : ℤ} → v ≡ patternValue a → w ≡ patternValue b → a % 2 ^ 31 ≤ b % 2 ^ 31 → natAbs v ≤ natAbs w
+unfolding patternValue
+in-order a b e f h =
+    rw (e, f, size-signed (signOf a) (magnitudeRead a), size-signed (signOf b) (magnitudeRead b)) (magnitude-most a b h)
+
+pub split-told : {u v u′ v′ : ℤ} {r : Parts} → u ≡ u′ → v ≡ v′ → Splits (u +ℤ v) r → Splits (u′ +ℤ v′) r
+split-told e f s = rw (← e, ← f) s
+
+pub split-turned : {u v u′ v′ : ℤ} {r : Parts} → u ≡ u′ → v ≡ v′ → Splits (u +ℤ v) r → Splits (v′ +ℤ u′) r
+split-turned {u} {v} {u′} {v′} {r} e f s =
+    rw (← e, ← f) (subst (λ (N : ℤ). Splits N r) (parts-eq (u +ℤ v) (v +ℤ u) (omega (arith, sum-parts u v, sum-parts v u))) s)
+
+-- ---- the order of two numbers
+pub zero-placed : {z : Wide} → z ≡ zeroWide → Placed 260 z
+zero-placed e = rw e (record { canonical = record { small = omega arith; full = inl refl }; place-most = omega arith })
+
+plus-zero : (v : ℤ) → v +ℤ pos 0 ≡ v
+plus-zero v = parts-eq (v +ℤ pos 0) v (omega (arith, sum-parts v (pos 0)))
+
+pub upto-told : (a b : Wide) {z : Wide} {t : Bool} → z ≡ zeroWide → t ≡ leZ (valueOf 2 a) (valueOf 2 b +ℤ valueOf 2 z) → t ≡ leZ (valueOf 2 a) (valueOf 2 b)
+upto-told a b {z} e f =
+    f ∙ ap (λ (w : Wide). leZ (valueOf 2 a) (valueOf 2 b +ℤ valueOf 2 w)) e ∙ ap (leZ (valueOf 2 a)) (plus-zero (valueOf 2 b))
+
+-- ---- the order of two sums
+module _ (a b : Parts) {r : Bool} (e : r ≡ leZ (valueOf 2 (a .high)) (valueOf 2 (b .high))) where
+  pub parts-greater : not r ≡ true → false ≡ splitUpto a b
+  parts-greater h = rw (denied e h)
+
+  module _ (h : not r ≡ false) {s : Bool} (f : s ≡ leZ (valueOf 2 (b .high)) (valueOf 2 (a .high))) where
+    pub parts-less : not s ≡ true → true ≡ splitUpto a b
+    parts-less g = rw (granted e h, denied f g)
+
+    pub parts-even : not s ≡ false → {t : Bool} → t ≡ leZ (valueOf 2 (a .low)) (valueOf 2 (b .low)) → t ≡ splitUpto a b
+    parts-even g k = k ∙ rw (granted e h, granted f g)
+
+-- N is h and l, M is i and j, and of two sums the one that is not greater has the first part that is not greater
+by-parts : (N M h l i j : ℤ) → h +ℤ l ≡ N → i +ℤ j ≡ M → (Upto N M → Upto h i) → (Upto M N → Upto i h)
+    → cond (leZ h i) (cond (leZ i h) (leZ l j) true) false ≡ leZ N M
+by-parts N M h l i j e f up down = by (leZ h i) (leZ i h) (leZ l j) (leZ N M) refl refl refl refl
+  where
+    by : (p q s t : Bool) → leZ h i ≡ p → leZ i h ≡ q → leZ l j ≡ s → leZ N M ≡ t → cond p (cond q s true) false ≡ t
+    by false q s true hp hq hs ht = absurd (omega (arith, le-false h i hp, up (le-true N M ht)))
+    by false q s false hp hq hs ht = refl
+    by true false s true hp hq hs ht = refl
+    by true false s false hp hq hs ht = absurd (omega (arith, le-false i h hq, down (omega (arith, le-false N M ht))))
+    by true true true true hp hq hs ht = refl
+    by true true false false hp hq hs ht = refl
+    by true true true false hp hq hs ht =
+        absurd (omega (arith, le-true h i hp, le-true i h hq, le-true l j hs, le-false N M ht, sum-parts h l, sum-parts i j, ap above e, ap below e, ap above f, ap below f))
+    by true true false true hp hq hs ht =
+        absurd (omega (arith, le-true h i hp, le-true i h hq, le-false l j hs, le-true N M ht, sum-parts h l, sum-parts i j, ap above e, ap below e, ap above f, ap below f))
+
+nearer : (N M : ℤ) → Upto N M → Upto (roundZ 2 24 nearest-even N 1) (roundZ 2 24 nearest-even M 1)
+nearer N M l =
+    le-parts (roundZ-mono binary-24 nearest-even N M (omega arith) (omega arith) (parts-scale-le N 1 (M *ℤ pos 1) (omega (arith, scale-above M 1, scale-below M 1))))
+
+module _ {N M : ℤ} {a b : Parts} (s : Splits N a) (t : Splits M b) where
+  pub split-order : splitUpto a b ≡ leZ N M
+  split-order =
+      by-parts N M (valueOf 2 (a .high)) (valueOf 2 (a .low)) (valueOf 2 (b .high)) (valueOf 2 (b .low)) (s .exact) (t .exact)
+      (λ l. rw (s .high-is, t .high-is) (nearer N M l)) (λ l. rw (s .high-is, t .high-is) (nearer M N l))
