@@ -3,6 +3,7 @@
 #include <inttypes.h>
 #include <stdio.h>
 
+#include "boundaries.h"
 #include "fractions.h"
 #include "lines.h"
 #include "operands.h"
@@ -269,6 +270,7 @@ int main(void) {
     all_patterns(&settings[0]);
     time_lines();
     time_receivers();
+    time_boundaries();
     if (!time_programs())
         printf("\nplaces or cat did not run\n");
     return 0;

@@ -29,7 +29,8 @@ enum zurkeb_refusal {
     ZURKEB_LIST_LENGTH = 12, /* empty, or longer than 4,096 */
     ZURKEB_LIST_DESCENDS = 13,
     ZURKEB_OUT_TOO_SHORT = 14,
-    ZURKEB_STRETCH_OUTSIDE = 17
+    ZURKEB_STRETCH_OUTSIDE = 17,
+    ZURKEB_STRIP_COUNT = 18
 };
 
 /* The directions of rounding: a call takes their numbers. */
@@ -107,6 +108,13 @@ typedef struct zurkeb_stretch_answer {
     uint64_t index;   /* of the first pattern that is refused by 9, counted from its log's start */
 } zurkeb_stretch_answer;
 
+typedef struct zurkeb_boundary_answer {
+    uint32_t refusal;
+    uint32_t sum;     /* the pattern of the last x */
+    uint32_t indexed; /* 1 where index is that of a strip, beside refusals 5 and 9; else 0 */
+    uint32_t index;
+} zurkeb_boundary_answer;
+
 #ifdef __cplusplus
 #define ZURKEB_SIZE(type, size) static_assert(sizeof(type) == (size), #type)
 #else
@@ -123,6 +131,7 @@ ZURKEB_SIZE(zurkeb_slices_answer, 16);
 ZURKEB_SIZE(zurkeb_position_answer, 16);
 ZURKEB_SIZE(zurkeb_reach_answer, 16);
 ZURKEB_SIZE(zurkeb_stretch_answer, 24);
+ZURKEB_SIZE(zurkeb_boundary_answer, 16);
 #undef ZURKEB_SIZE
 
 /* Is the format admitted? 0, or 1. */
@@ -199,6 +208,13 @@ zurkeb_position_answer zurkeb_nearest_line(const uint32_t *offsets, size_t lengt
  * it was. out must not overlap offsets. */
 zurkeb_reach_answer zurkeb_lines_within(const uint32_t *offsets, size_t length, uint32_t query, uint32_t distance, uint32_t *out,
                                         size_t out_length);
+
+/* The strips of a boundary, 1 to 4,096 binary32 patterns, summed from the first on, each step a three-step sum with the larger
+ * magnitude first. Answers the last x (a lone strip as it is) and writes each y into rests, which is one entry shorter. Refuses 18,
+ * 11, 2, and 9 and 5 with the index of the first strip that is not finite, or of the strip that made the sum too large; a refused
+ * call leaves rests as it was. rests must not overlap strips. */
+zurkeb_boundary_answer zurkeb_boundary_sum(const uint32_t *strips, size_t length, uint32_t *rests, size_t rests_length,
+                                           uint32_t direction);
 
 #ifdef __cplusplus
 }

@@ -1,5 +1,6 @@
 -- Each answer of the engine as C sees it: the refusal's number, 0 for none, and the values, zero at a refusal.
-use Prim.Native.Nat.{ℕ, _*_, _^_}
+use Prim.Native.Nat.{ℕ, _*_, _^_, _<_}
+use mathlib.Core.Path.{_≡_}
 use mathlib.Core.Bool.{false}
 use lib.IntN.{pos, negsuc}
 use Rattle.format.specs.declared.Format.{Format}
@@ -31,6 +32,7 @@ use Rattle.c_answers.specs.declared.SlicesAnswer.{SlicesAnswer}
 use Rattle.c_answers.specs.declared.PositionAnswer.{PositionAnswer}
 use Rattle.c_answers.specs.declared.ReachAnswer.{ReachAnswer}
 use Rattle.c_answers.specs.declared.StretchAnswer.{StretchAnswer}
+use Rattle.c_answers.specs.declared.BoundarySumAnswer.{BoundarySumAnswer}
 
 abbrev pub noNumber : Number
 noNumber = record { negative = false; significand = 0; exponent = pos 0 }
@@ -92,3 +94,12 @@ abbrev pub stretchOut : Given ℕ → StretchAnswer
 stretchOut (gives log) = record { refusal = 0; log = log; indexed = 0; index = 0 }
 stretchOut (refused number) = record { refusal = number; log = 0; indexed = 0; index = 0 }
 stretchOut (refusedAt number index) = record { refusal = number; log = 0; indexed = 1; index = index }
+
+-- an index that a number of 32 bits holds
+abbrev pub SmallIndex : Given ℕ → Type 0
+SmallIndex g = (number index : ℕ) → g ≡ refusedAt number index → index < 2 ^ 32
+
+abbrev pub boundaryOut : Given ℕ → BoundarySumAnswer
+boundaryOut (gives sum) = record { refusal = 0; sum = sum; indexed = 0; index = 0 }
+boundaryOut (refused number) = record { refusal = number; sum = 0; indexed = 0; index = 0 }
+boundaryOut (refusedAt number index) = record { refusal = number; sum = 0; indexed = 1; index = index }

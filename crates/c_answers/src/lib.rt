@@ -2,6 +2,7 @@
 // fields are zero at a refusal; a verdict or a pattern is a number.
 use binary32::Pattern;
 use binary32_arithmetic::SliceAnswer;
+use boundaries::BoundaryAnswer;
 use fast_two_sum::Checked;
 use fast_two_sum::Steps;
 use fast_two_sum::StepsAnswer;
@@ -14,7 +15,8 @@ use number::Number;
 use number::Ordered;
 use saved_lines::LineAnswer;
 ghost use mathlib.Core.Path.{_≡_};
-ghost use Rattle.c_answers.specs.Answers.{verdictOut, numberOut, orderOut, publishedOut, stepsOut, checkOut, patternOut, slicesOut, positionOut, reachOut, stretchOut};
+ghost use Rattle.boundaries.specs.Sums as sums;
+ghost use Rattle.c_answers.specs.Answers.{verdictOut, numberOut, orderOut, publishedOut, stepsOut, checkOut, patternOut, slicesOut, positionOut, reachOut, stretchOut, SmallIndex, boundaryOut};
 ghost use Rattle.saved_lines.specs.Lines.{given};
 use receivers::Calmer;
 ghost use Rattle.receivers.specs.Answers.{calmerGiven};
@@ -83,6 +85,15 @@ pub struct StretchAnswer {
     pub log: u32,
     pub indexed: u32,
     pub index: u64,
+}
+
+// The sum's pattern; beside refusals 5 and 9 `indexed` is 1 and `index` that of a strip.
+#[repr(C)]
+pub struct BoundarySumAnswer {
+    pub refusal: u32,
+    pub sum: u32,
+    pub indexed: u32,
+    pub index: u32,
 }
 
 pub fn verdict_out(verdict: Verdict) -> u32
@@ -316,6 +327,32 @@ pub fn stretch_out(answer: Calmer) -> StretchAnswer
             log: 0,
             indexed: 1,
             index: at as u64,
+        },
+    }
+}
+
+pub fn boundary_out(answer: BoundaryAnswer) -> BoundarySumAnswer
+    requires { ⌜ SmallIndex (sums.given answer) ⌝ }
+    ensures { λ r. ⌜ r ≡ boundaryOut (sums.given answer) ⌝ }
+{
+    match answer {
+        BoundaryAnswer::Sum(sum) => BoundarySumAnswer {
+            refusal: 0,
+            sum: sum,
+            indexed: 0,
+            index: 0,
+        },
+        BoundaryAnswer::Refused(why) => BoundarySumAnswer {
+            refusal: refusal_number(why),
+            sum: 0,
+            indexed: 0,
+            index: 0,
+        },
+        BoundaryAnswer::RefusedAt(why, index) => BoundarySumAnswer {
+            refusal: refusal_number(why),
+            sum: 0,
+            indexed: 1,
+            index: index as u32,
         },
     }
 }

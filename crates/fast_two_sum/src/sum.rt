@@ -43,8 +43,8 @@ fn enter_steps(
     with_number(with_number(three, b), a)
 }
 
-// The steps end at the first that refuses.
-fn three_steps(
+// The three steps on a prepared format. They end at the first that refuses.
+pub fn three_steps(
     prepared: Prepared,
     first: Direction,
     second: Direction,

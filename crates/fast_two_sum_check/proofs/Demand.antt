@@ -21,12 +21,13 @@ use Rattle.format.specs.declared.Refusal.the-variants.{TooLarge}
 use Rattle.format.specs.Directions.{direction}
 use Rattle.format.proofs.Formats.{Admitted, admitted-made, positional}
 use Rattle.number.specs.declared.Number.{Number}
+use Rattle.number.specs.declared.Answer.the-variants as answer
 use Rattle.number.specs.Numbers.{member, value, greatest}
 use Rattle.number.specs.Entry.{entry, after}
 use Rattle.number.proofs.Membership.{Member, members, member-made}
 use Rattle.number.proofs.Values.{member-greatest}
 use Rattle.number.proofs.Entries.{after-passed, entry-made, pair-made}
-use Rattle.prepared_arithmetic.specs.Operations.{roundedZ}
+use Rattle.prepared_arithmetic.specs.Operations.{roundedZ, roundedSum}
 use Rattle.fast_two_sum.specs.declared.StepsAnswer.the-variants as steps
 use Rattle.fast_two_sum.specs.declared.Steps.{Steps}
 use Rattle.fast_two_sum.specs.declared.Checked.the-variants as checked
@@ -71,7 +72,8 @@ module _ {f : Format} (ok : Admitted f) {a b : Number} (s : Summands f a b) wher
 
   -- ---- the sum
   module _ (d₁ d₂ d₃ : ℕ) (h : Directed d₁ d₂ d₃) where
-    passes : fastTwoSum f d₁ d₂ d₃ a b ≡ threeSteps f (direction d₁) (direction d₂) (direction d₃) a b
+    -- the checks pass
+    pub passes : fastTwoSum f d₁ d₂ d₃ a b ≡ threeSteps f (direction d₁) (direction d₂) (direction d₃) a b
     unfolding fastTwoSum all
     passes =
         after-passed steps.Refused _
@@ -81,6 +83,7 @@ module _ {f : Format} (ok : Admitted f) {a b : Number} (s : Summands f a b) wher
     -- a triple, each step rounded in its own direction
     pub record Hands (r : Steps) : Type 0 where
       pub is : fastTwoSum f d₁ d₂ d₃ a b ≡ steps.Triple r
+      pub first : roundedSum f (direction d₁) a b ≡ answer.Value (r .x)
       pub triple : Triple f a b (r .x) (r .z) (r .y)
       pub rounded : Rounded f (direction d₁) (direction d₂) (direction d₃) a b (r .x) (r .z) (r .y)
       pub small-enough : natAbs (roundZ (f .base) (f .digits) (direction d₁) (value f a +ℤ value f b) 1) ≤ greatest f
@@ -88,6 +91,7 @@ module _ {f : Format} (ok : Admitted f) {a b : Number} (s : Summands f a b) wher
     -- refusal 5: a + b, rounded in the first direction, is too large
     pub record TooMuch : Type 0 where
       pub is : fastTwoSum f d₁ d₂ d₃ a b ≡ steps.Refused TooLarge
+      pub first : roundedSum f (direction d₁) a b ≡ answer.Refused TooLarge
       pub too-large : greatest f < natAbs (roundZ (f .base) (f .digits) (direction d₁) (value f a +ℤ value f b) 1)
 
     -- ---- the theory's triple, on rounded values
@@ -129,6 +133,7 @@ module _ {f : Format} (ok : Admitted f) {a b : Number} (s : Summands f a b) wher
               record { x = x; z = z; y = y },
               record {
                 is = passes ∙ three-given f _ _ _ a b (gx .is) (gz .is) (gy .is);
+                first = gx .is;
                 triple = rounded-is-triple ok (gx .number) (gz .number) (gy .number) rounded;
                 rounded = rounded;
                 small-enough = subst (λ (v : ℤ). natAbs v ≤ greatest f) (gx .same) (within (gx .number));
@@ -143,7 +148,7 @@ module _ {f : Format} (ok : Admitted f) {a b : Number} (s : Summands f a b) wher
     pub sum-cases : ((r : Steps) × Hands r) ⊎ TooMuch
     unfolding step
     sum-cases =
-        ⊎-elim (λ g. inl (after-first (g .0) (g .1))) (λ e. inr (record { is = passes ∙ first-ends f _ _ _ a b (e .is); too-large = e .beyond }))
+        ⊎-elim (λ g. inl (after-first (g .0) (g .1))) (λ e. inr (record { is = passes ∙ first-ends f _ _ _ a b (e .is); first = e .is; too-large = e .beyond }))
         (rounded-cases ok (direction d₁) (value f a +ℤ value f b))
 
     -- with the first direction 0 or 1 nothing is off

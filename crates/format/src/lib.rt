@@ -34,6 +34,7 @@ pub enum Refusal {
     ListDescends,
     OutTooShort,
     StretchOutside,
+    StripCount,
 }
 
 // The five directions, in the order of their numbers 0 to 4.

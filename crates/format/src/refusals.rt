@@ -23,5 +23,6 @@ pub fn refusal_number(refusal: Refusal) -> u32
         Refusal::ListDescends => 13,
         Refusal::OutTooShort => 14,
         Refusal::StretchOutside => 17,
+        Refusal::StripCount => 18,
     }
 }

@@ -1,0 +1,279 @@
+-- What one step of a boundary's sum gives: demand 3 on two finite patterns. Only the first of its three steps may be too large.
+use Prim.Native.Nat.{ℕ, _*_, _^_, _≤_, _<_}
+use mathlib.Core.Path.{_≡_, refl, sym, ap, ap₂, subst, _∙_}
+use mathlib.Core.Bool.{Bool, true, false, cond}
+use mathlib.Core.Logic.{⊎-elim}
+use native.Mathlib.Decide.{decLe}
+use native.Mathlib.Nat.{le-of-lt}
+use native.Mathlib.Omega.{arith}
+use lib.Dec.{leb}
+use lib.IntN.{ℤ, natAbs, _+ℤ_, _-ℤ_, +ℤ-comm}
+use borrow.Author.Tests.{leb-true, leb-false, le-leb, lt-leb}
+use Rattle.theory.specs.Round.{Direction, nearest-even, nearest-away, toward-zero, upward, downward}
+use Rattle.theory.specs.Signed.{roundZ}
+use Rattle.theory.proofs.Round.{Nearest}
+use Rattle.format.specs.declared.Format.{Format}
+use Rattle.format.specs.declared.Refusal.{Refusal}
+use Rattle.format.specs.declared.Refusal.the-variants.{TooLarge}
+use Rattle.format.specs.Directions.{isDirection, direction}
+use Rattle.format.specs.Published.{binary32}
+use Rattle.number.specs.declared.Number.{Number}
+use Rattle.number.specs.declared.Answer.{Answer}
+use Rattle.number.specs.declared.Answer.the-variants as answer
+use Rattle.number.specs.declared.Ordered.the-variants.{Less, Equal, Greater}
+use Rattle.number.specs.Numbers.{member, magnitude, value, greatest}
+use Rattle.number.specs.Order.{orderN}
+use Rattle.number.proofs.Comparison.{size-less-says, size-equal-says, size-greater-says}
+use Rattle.prepared_arithmetic.specs.Operations.{roundedZ, roundedSum}
+use Rattle.fast_two_sum.specs.declared.Steps.{Steps}
+use Rattle.fast_two_sum.specs.declared.StepsAnswer.{StepsAnswer}
+use Rattle.fast_two_sum.specs.declared.StepsAnswer.the-variants as three
+use Rattle.fast_two_sum.specs.Triples.{Summands}
+use Rattle.fast_two_sum.specs.Calls.{threeSteps, fastTwoSum}
+use Rattle.fast_two_sum.proofs.Bounds.{bound, value-size}
+use Rattle.fast_two_sum.proofs.Entered.{Directed}
+use Rattle.fast_two_sum_check.proofs.Demand.{Hands, passes, sum-cases, nearest-sum-exact}
+use Rattle.binary32.specs.declared.Pattern.the-variants as pattern
+use Rattle.binary32.specs.Patterns.{finite, patternValue, numberRead, patternOf, answerWritten}
+use Rattle.binary32.proofs.Fields.{binary32-limits}
+use Rattle.binary32.proofs.RoundTrips.{Reads, reads, read-made, read-member, written-read}
+use Rattle.binary32.proofs.PatternValues.{read-is-value}
+use Rattle.boundaries.specs.declared.Step.{Step}
+use Rattle.boundaries.specs.declared.StepAnswer.{StepAnswer}
+use Rattle.boundaries.specs.declared.StepAnswer.the-variants as step
+use Rattle.boundaries.specs.Sums.{threeSum, stepWritten, stripAdded}
+use Rattle.boundaries.specs.Steps.{firstStep}
+
+-- ---- directions
+record Numbered (d : Direction) : Type 0 where
+  number : ℕ
+  known : isDirection number ≡ true
+  is : direction number ≡ d
+
+-- each direction has a number
+numbered : (d : Direction) → Numbered d
+unfolding isDirection direction
+numbered nearest-even = record { number = 0; known = refl; is = refl }
+numbered nearest-away = record { number = 1; known = refl; is = refl }
+numbered toward-zero = record { number = 2; known = refl; is = refl }
+numbered upward = record { number = 3; known = refl; is = refl }
+numbered downward = record { number = 4; known = refl; is = refl }
+
+-- ---- two numbers
+-- three steps from two numbers whose exact sum is v gave x and y
+record Triple (d : Direction) (v : ℤ) (t : Steps) : Type 0 where
+  first : roundedZ binary32 d v ≡ answer.Value (t .x)
+  x-is : value binary32 (t .x) ≡ roundZ 2 24 d v 1
+  x-number : member binary32 (t .x) ≡ true
+  y-number : member binary32 (t .y) ≡ true
+  within : 2 ^ 47 * natAbs (value binary32 (t .x) +ℤ value binary32 (t .y) -ℤ v) ≤ magnitude binary32 (t .x)
+  exact : Nearest d → natAbs (value binary32 (t .x) +ℤ value binary32 (t .y) -ℤ v) ≡ 0
+
+-- v, rounded, is beyond the greatest number
+abbrev pub TooMuch : Direction → ℤ → Type 0
+TooMuch d v = greatest binary32 < natAbs (roundZ 2 24 d v 1)
+
+data Steps-outcome (d : Direction) (v : ℤ) : StepsAnswer → Type 0 where
+  triple : {t : Steps} → Triple d v t → Steps-outcome d v (three.Triple t)
+  too-large : roundedZ binary32 d v ≡ answer.Refused TooLarge → TooMuch d v → Steps-outcome d v (three.Refused TooLarge)
+
+module _ (n : ℕ) (h : isDirection n ≡ true) {a b : Number} (s : Summands binary32 a b) where
+  abbrev known : Directed n n n
+  known = record { first = h; second = h; third = h }
+
+  abbrev sum : ℤ
+  sum = value binary32 a +ℤ value binary32 b
+
+  handed : (t : Steps) → Hands binary32-limits s n n n known t → Steps-outcome (direction n) sum (fastTwoSum binary32 n n n a b)
+  handed t g =
+      subst (Steps-outcome (direction n) sum) (sym (g .is))
+      (triple (record {
+        first = g .first;
+        x-is = g .rounded .x-is;
+        x-number = g .triple .x-number;
+        y-number = g .triple .y-number;
+        within = bound s (g .triple) .by-x;
+        exact = λ near. nearest-sum-exact binary32-limits s n n n known near t (g .rounded);
+      }))
+
+  -- what demand 3 says of our own sum
+  by-demand : Steps-outcome (direction n) sum (threeSteps binary32 (direction n) (direction n) (direction n) a b)
+  by-demand =
+      subst (Steps-outcome (direction n) sum) (passes binary32-limits s n n n known)
+      (⊎-elim (λ g. handed (g .0) (g .1)) (λ g. subst (Steps-outcome (direction n) sum) (sym (g .is)) (too-large (g .first) (g .too-large)))
+      (sum-cases binary32-limits s n n n known))
+
+in-order : (d : Direction) {a b : Number} → Summands binary32 a b → Steps-outcome d (value binary32 a +ℤ value binary32 b) (threeSteps binary32 d d d a b)
+in-order d {a} {b} s =
+    let n = numbered d in
+    subst (λ (e : Direction). Steps-outcome e (value binary32 a +ℤ value binary32 b) (threeSteps binary32 e e e a b)) (n .is) (by-demand (n .number) (n .known) s)
+
+-- the order by the magnitudes
+module _ (d : Direction) (x s : Number) where
+  order-first : magnitude binary32 s ≤ magnitude binary32 x → threeSteps binary32 d d d x s ≡ threeSum d x s
+  unfolding threeSum
+  order-first l = rw (le-leb _ _ l)
+
+  order-second : magnitude binary32 x < magnitude binary32 s → threeSteps binary32 d d d s x ≡ threeSum d x s
+  unfolding threeSum
+  order-second l = rw (lt-leb _ _ l)
+
+  module _ (i : member binary32 x ≡ true) (j : member binary32 s ≡ true) where
+    sum-outcome : Steps-outcome d (value binary32 x +ℤ value binary32 s) (threeSum d x s)
+    sum-outcome = by (decLe (magnitude binary32 s) (magnitude binary32 x))
+      where
+        by : Dec (magnitude binary32 s ≤ magnitude binary32 x) → Steps-outcome d (value binary32 x +ℤ value binary32 s) (threeSum d x s)
+        by (yes l) =
+            subst (Steps-outcome d (value binary32 x +ℤ value binary32 s)) (order-first l)
+            (in-order d (record { base = refl; digits = omega arith; a-number = i; b-number = j; order = l }))
+        by (no l) =
+            subst (λ (v : ℤ). Steps-outcome d v (threeSum d x s)) (+ℤ-comm (value binary32 s) (value binary32 x))
+            (subst (Steps-outcome d (value binary32 s +ℤ value binary32 x)) (order-second (omega arith))
+            (in-order d (record { base = refl; digits = omega arith; a-number = j; b-number = i; order = omega arith })))
+
+-- the code compares in a format that is binary32
+module _ (d : Direction) (x s : Number) {f : Format} (e : f ≡ binary32) where
+  pub less-turned : orderN (magnitude f x) (magnitude f s) ≡ Less → threeSteps f d d d s x ≡ threeSum d x s
+  less-turned h = rw e (order-second d x s (size-less-says (rw e at h)))
+
+  pub equal-kept : orderN (magnitude f x) (magnitude f s) ≡ Equal → threeSteps f d d d x s ≡ threeSum d x s
+  equal-kept h = rw e (order-first d x s (size-equal-says (rw e at h)))
+
+  pub greater-kept : orderN (magnitude f x) (magnitude f s) ≡ Greater → threeSteps f d d d x s ≡ threeSum d x s
+  greater-kept h = rw e (order-first d x s (le-of-lt (size-greater-says (rw e at h))))
+
+-- a step is what the call fast_two_sum answers, in binary32 and in one direction
+pub is-fast-two-sum : (d : ℕ) → isDirection d ≡ true → (x s : Number) → member binary32 x ≡ true → member binary32 s ≡ true
+    → threeSum (direction d) x s ≡ cond (leb (magnitude binary32 s) (magnitude binary32 x)) (fastTwoSum binary32 d d d x s) (fastTwoSum binary32 d d d s x)
+unfolding threeSum
+is-fast-two-sum d h x s i j = by (leb (magnitude binary32 s) (magnitude binary32 x)) refl
+  where
+    by : (t : Bool) → leb (magnitude binary32 s) (magnitude binary32 x) ≡ t
+        → cond t (threeSteps binary32 (direction d) (direction d) (direction d) x s) (threeSteps binary32 (direction d) (direction d) (direction d) s x)
+        ≡ cond t (fastTwoSum binary32 d d d x s) (fastTwoSum binary32 d d d s x)
+    by true e =
+        sym (passes binary32-limits (record { base = refl; digits = omega arith; a-number = i; b-number = j; order = leb-true _ _ e }) d d d (record { first = h; second = h; third = h }))
+    by false e =
+        sym
+        (passes binary32-limits
+        (record { base = refl; digits = omega arith; a-number = j; b-number = i; order = omega (arith, leb-false (magnitude binary32 s) (magnitude binary32 x) e) }) d d d
+        (record { first = h; second = h; third = h }))
+
+-- ---- two patterns
+finite-member : (n : ℕ) → finite n ≡ true → member binary32 (numberRead n) ≡ true
+finite-member n h = read-member n (read-made n h)
+
+-- a number, written
+back-written : (z : Number) → member binary32 z ≡ true → Reads (patternOf z) z
+back-written z h = reads (patternOf z) (written-read z h)
+
+written-finite : (z : Number) → member binary32 z ≡ true → finite (patternOf z) ≡ true
+written-finite z h = back-written z h .finite
+
+written-value : (z : Number) → member binary32 z ≡ true → patternValue (patternOf z) ≡ value binary32 z
+written-value z h = sym (read-is-value (patternOf z) (written-finite z h)) ∙ ap (value binary32) (sym (back-written z h .is))
+
+-- the exact sum of two patterns
+abbrev pub pairSum : (x s : ℕ) → ℤ
+pairSum x s = patternValue x +ℤ patternValue s
+
+-- how far x and y after a step are from x and s before it
+abbrev pub offBy : (x s : ℕ) (t : Step) → ℕ
+offBy x s t = natAbs (patternValue (t .x) +ℤ patternValue (t .y) -ℤ pairSum x s)
+
+pub record Stepped (d : Direction) (x s : ℕ) (t : Step) : Type 0 where
+  pub first : firstStep d x s ≡ pattern.Written (t .x)
+  pub x-is : patternValue (t .x) ≡ roundZ 2 24 d (pairSum x s) 1
+  pub x-finite : finite (t .x) ≡ true
+  pub y-finite : finite (t .y) ≡ true
+  pub within : 2 ^ 47 * offBy x s t ≤ natAbs (patternValue (t .x))
+  pub exact : Nearest d → offBy x s t ≡ 0
+
+-- a step of two finite patterns is added, or its first sum is too large
+pub data Outcome (d : Direction) (x s : ℕ) : StepAnswer → Type 0 where
+  added : {t : Step} → Stepped d x s t → Outcome d x s (step.Added t)
+  too-large : firstStep d x s ≡ pattern.Refused TooLarge → TooMuch d (pairSum x s) → Outcome d x s step.TooLarge
+
+module _ (d : Direction) (x s : ℕ) (i : finite x ≡ true) (j : finite s ≡ true) where
+  same-sum : value binary32 (numberRead x) +ℤ value binary32 (numberRead s) ≡ pairSum x s
+  same-sum = ap₂ _+ℤ_ (read-is-value x i) (read-is-value s j)
+
+  written-step : {t : Steps} → Triple d (pairSum x s) t → firstStep d x s ≡ answerWritten (roundedZ binary32 d (pairSum x s))
+      → Stepped d x s (record { x = patternOf (t .x); y = patternOf (t .y) })
+  written-step {t} g e =
+      let vx : patternValue (patternOf (t .x)) ≡ value binary32 (t .x) = written-value (t .x) (g .x-number) in
+      let vy : patternValue (patternOf (t .y)) ≡ value binary32 (t .y) = written-value (t .y) (g .y-number) in
+      let same : offBy x s (record { x = patternOf (t .x); y = patternOf (t .y) }) ≡ natAbs (value binary32 (t .x) +ℤ value binary32 (t .y) -ℤ pairSum x s) =
+      ap₂ (λ (u v : ℤ). natAbs (u +ℤ v -ℤ pairSum x s)) vx vy in
+      record {
+        first = e ∙ ap answerWritten (g .first);
+        x-is = vx ∙ g .x-is;
+        x-finite = written-finite (t .x) (g .x-number);
+        y-finite = written-finite (t .y) (g .y-number);
+        within = omega (arith, g .within, same, ap natAbs vx, value-size binary32 (t .x));
+        exact = λ near. same ∙ g .exact near;
+      }
+
+  first-is : firstStep d x s ≡ answerWritten (roundedZ binary32 d (pairSum x s))
+  unfolding firstStep
+  first-is = ap (λ (v : ℤ). answerWritten (roundedZ binary32 d v)) same-sum
+
+  pub outcome : Outcome d x s (stripAdded d x s)
+  unfolding stripAdded
+  outcome =
+      by (threeSum d (numberRead x) (numberRead s))
+      (subst (λ (v : ℤ). Steps-outcome d v (threeSum d (numberRead x) (numberRead s))) same-sum
+      (sum-outcome d (numberRead x) (numberRead s) (finite-member x i) (finite-member s j)))
+    where
+      by : (p : StepsAnswer) → Steps-outcome d (pairSum x s) p → Outcome d x s (stepWritten p)
+      by p (triple g) = added (written-step g first-is)
+      by p (too-large e l) = too-large (first-is ∙ ap answerWritten e) l
+
+-- ---- what the code reads and adds
+pub read-number : (n : ℕ) {z : Number} → z ≡ numberRead n → finite n ≡ true → member binary32 z ≡ true
+read-number n e h = rw e (finite-member n h)
+
+-- where there is a triple, x and y are in the format
+pub triple-members : (d : Direction) (x s : Number) → member binary32 x ≡ true → member binary32 s ≡ true → {t : Steps} → threeSum d x s ≡ three.Triple t
+    → (member binary32 (t .x) ≡ true) × (member binary32 (t .y) ≡ true)
+triple-members d x s i j {t} e = by (threeSum d x s) (sum-outcome d x s i j) e
+  where
+    by : (p : StepsAnswer) → Steps-outcome d (value binary32 x +ℤ value binary32 s) p → p ≡ three.Triple t → (member binary32 (t .x) ≡ true) × (member binary32 (t .y) ≡ true)
+    by p (triple {t = r} g) e = let same : r ≡ t = cc in subst (λ (u : Steps). (member binary32 (u .x) ≡ true) × (member binary32 (u .y) ≡ true)) same (g .x-number, g .y-number)
+    by p (too-large e l) k = absurd (let o : _≡_ {A = ℕ} 0 1 = cc in omega arith)
+
+pub sum-written : (d : Direction) (x s : ℕ) {a b : Number} {r : StepsAnswer} → a ≡ numberRead x → b ≡ numberRead s → r ≡ threeSum d a b → stepWritten r ≡ stripAdded d x s
+unfolding stripAdded
+sum-written d x s i j e = ap stepWritten (e ∙ ap₂ (threeSum d) i j)
+
+pub first-written : (d : Direction) (x s : ℕ) {a b : Number} {f : Format} {r : Answer} → f ≡ binary32 → a ≡ numberRead x → b ≡ numberRead s → r ≡ roundedSum f d a b
+    → answerWritten r ≡ firstStep d x s
+unfolding firstStep
+first-written d x s k i j e = rw (e, k, i, j)
+
+-- ---- what follows from one step's answer
+module _ (d : Direction) (x s : ℕ) (i : finite x ≡ true) (j : finite s ≡ true) where
+  pub added-finite : {t : Step} → stripAdded d x s ≡ step.Added t → finite (t .x) ≡ true
+  added-finite {t} e = by (stripAdded d x s) (outcome d x s i j) e
+    where
+      by : (p : StepAnswer) → Outcome d x s p → p ≡ step.Added t → finite (t .x) ≡ true
+      by p (added {t = u} g) e = let same : u ≡ t = cc in subst (λ (u : Step). finite (u .x) ≡ true) same (g .x-finite)
+      by p (too-large e l) k = absurd (let o : _≡_ {A = ℕ} 0 1 = cc in omega arith)
+
+  -- the first step's x is that of the step
+  pub first-added : {n : ℕ} → firstStep d x s ≡ pattern.Written n → (t : Step) × (stripAdded d x s ≡ step.Added t) × (t .x ≡ n) × (finite n ≡ true)
+  first-added {n} e = by (stripAdded d x s) refl (outcome d x s i j)
+    where
+      by : (p : StepAnswer) → stripAdded d x s ≡ p → Outcome d x s p → (t : Step) × (stripAdded d x s ≡ step.Added t) × (t .x ≡ n) × (finite n ≡ true)
+      by p k (added {t} g) =
+          let both : pattern.Written (t .x) ≡ pattern.Written n = sym (g .first) ∙ e in
+          let same : t .x ≡ n = cc in
+          (t, k, same, subst (λ (u : ℕ). finite u ≡ true) same (g .x-finite))
+      by p k (too-large f l) = absurd (let both : pattern.Refused TooLarge ≡ pattern.Written n = sym f ∙ e in let o : _≡_ {A = ℕ} 0 1 = cc in omega arith)
+
+  pub first-refused : {why : Refusal} → firstStep d x s ≡ pattern.Refused why → stripAdded d x s ≡ step.TooLarge
+  first-refused {why} e = by (stripAdded d x s) (outcome d x s i j)
+    where
+      by : (p : StepAnswer) → Outcome d x s p → p ≡ step.TooLarge
+      by p (added {t} g) = absurd (let both : pattern.Written (t .x) ≡ pattern.Refused why = sym (g .first) ∙ e in let o : _≡_ {A = ℕ} 0 1 = cc in omega arith)
+      by p (too-large f l) = refl

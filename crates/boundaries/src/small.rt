@@ -1,0 +1,23 @@
+// Strips so small that no sum of 4,096 of them is too large: their exponent fields are below 242.
+ghost use mathlib.Core.Path.{_≡_};
+ghost use Rattle.theory.specs.Lists.{all};
+ghost use Rattle.boundaries.specs.Steps.{small};
+
+fn is_small(pattern: u32) -> bool
+    ensures { λ r. ⌜ r ≡ small pattern ⌝ }
+{
+    pattern % 2147483648 < 2030043136
+}
+
+pub fn are_small(strips: &[u32]) -> bool
+    ensures { λ r. ⌜ r ≡ all small (now (strips .entry)) ⌝ }
+{
+    let mut i = 0;
+    while i < strips.len() {
+        if !is_small(strips[i]) {
+            return false;
+        }
+        i += 1;
+    }
+    true
+}

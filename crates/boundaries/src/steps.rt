@@ -1,0 +1,68 @@
+// One step: a strip is added to the running sum. Both are finite and the format is prepared, so nothing is examined again.
+use crate::Step;
+use crate::StepAnswer;
+use binary32::Pattern;
+use binary32::patterns::pattern_of;
+use binary32::patterns::read_finite;
+use binary32::prepared::prepared_binary32;
+use binary32_arithmetic::entry::write_answer;
+use fast_two_sum::StepsAnswer;
+use fast_two_sum::sum::three_steps;
+use format::Direction;
+use number::Number;
+use number::Ordered;
+use number::order::compare_magnitudes;
+use prepared_arithmetic::sum::add;
+ghost use mathlib.Core.Path.{_≡_};
+ghost use mathlib.Core.Bool.{true};
+ghost use Rattle.format.specs.Directions.{sense};
+ghost use Rattle.format.specs.Published.{binary32};
+ghost use Rattle.number.specs.Numbers.{member};
+ghost use Rattle.binary32.specs.Patterns.{finite};
+ghost use Rattle.boundaries.specs.Sums.{threeSum, stripAdded};
+ghost use Rattle.boundaries.specs.Steps.{firstStep};
+
+// x + s in three steps: the larger magnitude first, x first at equality.
+fn three_sum(direction: Direction, x: Number, s: Number) -> StepsAnswer
+    requires { ⌜ (member binary32 x ≡ true) × (member binary32 s ≡ true) ⌝ }
+    ensures { λ r. ⌜ r ≡ threeSum (sense direction) x s ⌝ }
+{
+    let prepared = prepared_binary32();
+    match compare_magnitudes(prepared.format, x, s) {
+        Ordered::Less => three_steps(prepared, direction, direction, direction, s, x),
+        Ordered::Equal => three_steps(prepared, direction, direction, direction, x, s),
+        Ordered::Greater => three_steps(prepared, direction, direction, direction, x, s),
+        Ordered::Refused(why) => StepsAnswer::Refused(why),
+    }
+}
+
+// The strip added to the running sum x.
+pub fn add_strip(direction: Direction, x: u32, strip: u32) -> StepAnswer
+    requires { ⌜ (finite x ≡ true) × (finite strip ≡ true) ⌝ }
+    ensures { λ r. ⌜ r ≡ stripAdded (sense direction) x strip ⌝ }
+{
+    match three_sum(direction, read_finite(x), read_finite(strip)) {
+        StepsAnswer::Refused(_) => StepAnswer::TooLarge,
+        StepsAnswer::Triple(t) => {
+            let next = t.x;
+            let rest = t.y;
+            StepAnswer::Added(Step {
+                x: pattern_of(next),
+                y: pattern_of(rest),
+            })
+        }
+    }
+}
+
+// x of that step alone: the first of the three steps, the only one that may be too large.
+pub fn add_first(direction: Direction, x: u32, strip: u32) -> Pattern
+    requires { ⌜ (finite x ≡ true) × (finite strip ≡ true) ⌝ }
+    ensures { λ r. ⌜ r ≡ firstStep (sense direction) x strip ⌝ }
+{
+    write_answer(add(
+        prepared_binary32(),
+        direction,
+        read_finite(x),
+        read_finite(strip),
+    ))
+}

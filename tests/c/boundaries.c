@@ -1,0 +1,231 @@
+/* Sums of boundaries against plain C: the machine's float arithmetic step by step (fesetround), the refusals and their order, and
+ * the bound itself in exact integers. Prints how many comparisons were made; stops with an error at the first difference. */
+#include <fenv.h>
+#include <stdbool.h>
+#include <string.h>
+
+#include "compare.h"
+#include "zurkeb.h"
+
+enum { MOST = 4096, KEPT = 0x5eed };
+
+static const int modes[5] = {FE_TONEAREST, -1, FE_TOWARDZERO, FE_UPWARD, FE_DOWNWARD};
+
+static uint32_t strips[MOST + 1], rests[MOST + 1], wanted[MOST + 1];
+
+static float of_pattern(uint32_t n) {
+    float x;
+    memcpy(&x, &n, sizeof x);
+    return x;
+}
+
+static uint32_t pattern_of(float x) {
+    uint32_t n;
+    memcpy(&n, &x, sizeof n);
+    return n == 0x80000000u ? 0 : n; /* zero is written 00000000 */
+}
+
+static uint32_t size_of(uint32_t n) { return n & 0x7fffffffu; }
+
+/* ---- exact integers: multiples of 2^-149 times 2^47 in 32-bit words, two's complement; 4,096 numbers below 2^277 fit */
+enum { WORDS = 12 };
+typedef struct exact {
+    uint32_t words[WORDS];
+} exact;
+
+static void plus(exact *total, const exact *more) {
+    uint64_t carry = 0;
+    for (int i = 0; i < WORDS; i++) {
+        carry += (uint64_t)total->words[i] + more->words[i];
+        total->words[i] = (uint32_t)carry;
+        carry >>= 32;
+    }
+}
+
+static exact negated(exact x) {
+    exact one = {{1}};
+    for (int i = 0; i < WORDS; i++)
+        x.words[i] = ~x.words[i];
+    plus(&x, &one);
+    return x;
+}
+
+static bool is_negative(const exact *x) { return x->words[WORDS - 1] >> 31; }
+static exact absolute(exact x) { return is_negative(&x) ? negated(x) : x; }
+
+/* The value of a pattern times 2^shift, in units of 2^-149. */
+static exact value_of(uint32_t n, uint32_t shift) {
+    uint32_t field = n >> 23 & 255, place = (field == 0 ? 0 : field - 1) + shift;
+    uint64_t significand = (uint64_t)((n & 0x7fffff) + (field == 0 ? 0 : 0x800000)) << place % 32;
+    exact x = {{0}};
+    x.words[place / 32] = (uint32_t)significand;
+    x.words[place / 32 + 1] = (uint32_t)(significand >> 32);
+    return n >> 31 ? negated(x) : x;
+}
+
+static void add_value(exact *total, uint32_t n, uint32_t shift) {
+    exact x = value_of(n, shift);
+    plus(total, &x);
+}
+
+static void take_value(exact *total, uint32_t n, uint32_t shift) {
+    exact x = negated(value_of(n, shift));
+    plus(total, &x);
+}
+
+/* 2^47 times the distance of sum and rests from the strips, against the sum of |x| after each step. */
+static void bound(uint32_t sum, size_t length, uint32_t direction, const exact *sizes) {
+    exact off = {{0}}, zero = {{0}};
+    add_value(&off, sum, 47);
+    for (size_t i = 0; i + 1 < length; i++)
+        add_value(&off, rests[i], 47);
+    for (size_t i = 0; i < length; i++)
+        take_value(&off, strips[i], 47);
+    exact left = negated(absolute(off));
+    plus(&left, sizes);
+    same("within the bound", is_negative(&left), 0);
+    if (direction < 2)
+        same("exact", (uint64_t)memcmp(&off, &zero, sizeof off), 0);
+}
+
+/* ---- the machine's sum */
+typedef struct model {
+    uint32_t refusal, sum, index;
+    exact sizes;
+} model;
+
+static void machine_sum(model *m, size_t length, uint32_t direction) {
+    uint32_t x = strips[0];
+    memset(m, 0, sizeof *m);
+    fesetround(modes[direction]);
+    for (size_t i = 1; i < length && m->refusal == 0; i++) {
+        bool turned = size_of(x) < size_of(strips[i]);
+        volatile float a = of_pattern(turned ? strips[i] : x), b = of_pattern(turned ? x : strips[i]), s, z, y;
+        feclearexcept(FE_ALL_EXCEPT);
+        s = a + b;
+        if (fetestexcept(FE_OVERFLOW)) {
+            m->refusal = ZURKEB_TOO_LARGE;
+            m->index = (uint32_t)i;
+            break;
+        }
+        z = s - a;
+        y = b - z;
+        wanted[i - 1] = pattern_of(y);
+        x = pattern_of(s);
+        add_value(&m->sizes, size_of(x), 0);
+    }
+    fesetround(FE_TONEAREST);
+    m->sum = m->refusal == 0 ? x : 0;
+}
+
+/* ---- one call: its answer, and rests as they were at a refusal */
+static zurkeb_boundary_answer call(size_t length, size_t rests_length, uint32_t direction) {
+    size_t seen = rests_length < length ? length : rests_length;
+    for (size_t i = 0; i < seen; i++)
+        rests[i] = KEPT + (uint32_t)i;
+    zurkeb_boundary_answer r = zurkeb_boundary_sum(strips, length, rests, rests_length, direction);
+    size_t written = r.refusal == 0 ? rests_length : 0;
+    for (size_t i = written; i < seen; i++)
+        same("rests are as they were", rests[i], KEPT + (uint32_t)i);
+    return r;
+}
+
+static void refused(const char *what, zurkeb_boundary_answer r, uint32_t refusal, uint32_t indexed, uint32_t index) {
+    same(what, r.refusal, refusal);
+    same(what, r.sum, 0);
+    same(what, r.indexed, indexed);
+    same(what, r.index, index);
+}
+
+static void against_machine(size_t length) {
+    static model m;
+    for (uint32_t d = 0; d < 5; d++) {
+        zurkeb_boundary_answer r = call(length, length - 1, d);
+        if (modes[d] < 0) { /* ties away: the machine has none; the sum is exact all the same */
+            if (r.refusal == 0)
+                bound(r.sum, length, d, &(exact){{0}});
+            continue;
+        }
+        machine_sum(&m, length, d);
+        if (m.refusal != 0) {
+            refused("too large", r, m.refusal, 1, m.index);
+            continue;
+        }
+        same("refusal", r.refusal, 0);
+        same("sum", r.sum, m.sum);
+        same("indexed", r.indexed, 0);
+        same("index", r.index, 0);
+        for (size_t i = 0; i + 1 < length; i++)
+            same("rest", rests[i], wanted[i]);
+        bound(r.sum, length, d, &m.sizes);
+    }
+}
+
+/* Exponent fields from `low` on over a width: near each other, far apart, subnormal, or so large that sums overflow. */
+static uint32_t random_strip(uint32_t low, uint32_t width) {
+    uint32_t field = low + random32() % width;
+    return (random32() & 0x807fffffu) | field << 23;
+}
+
+static void random_sums(uint64_t rounds) {
+    static const uint32_t kinds[5][2] = {{0, 255}, {120, 10}, {0, 3}, {250, 5}, {100, 60}};
+    for (uint64_t round = 0; round < rounds; round++) {
+        const uint32_t *kind = kinds[round % 5];
+        size_t length = 1 + random32() % 12;
+        for (size_t i = 0; i < length; i++) {
+            strips[i] = random_strip(kind[0], kind[1]);
+            if (i > 0 && random32() % 4 == 0) /* equal magnitudes, and sums that cancel */
+                strips[i] = strips[i - 1] ^ (random32() & 0x80000000u);
+        }
+        against_machine(length);
+    }
+}
+
+static void long_sums(void) {
+    for (size_t length = MOST - 1; length <= MOST; length++) {
+        for (size_t i = 0; i < length; i++)
+            strips[i] = random_strip(110, 30);
+        against_machine(length);
+    }
+    strips[MOST - 1] = strips[MOST - 2] = 0x7f7fffffu; /* the last strip makes the sum too large */
+    against_machine(MOST);
+}
+
+/* Each refusal and the order 18, 11, 2, 9, 5; a lone strip. */
+static void refusals(void) {
+    const uint32_t greatest = 0x7f7fffffu, infinity = 0x7f800000u, nan = 0xffc00001u;
+    for (size_t i = 0; i <= MOST; i++)
+        strips[i] = i % 2 == 0 ? infinity : greatest;
+    refused("no strips", call(0, 3, 9), ZURKEB_STRIP_COUNT, 0, 0);
+    refused("too many strips", call(MOST + 1, 3, 9), ZURKEB_STRIP_COUNT, 0, 0);
+    refused("rests too short", call(MOST, MOST - 2, 9), ZURKEB_LENGTHS_DIFFER, 0, 0);
+    refused("rests too long", call(3, 3, 9), ZURKEB_LENGTHS_DIFFER, 0, 0);
+    refused("no direction", call(3, 2, 5), ZURKEB_NO_SUCH_DIRECTION, 0, 0);
+    refused("negative direction", call(3, 2, (uint32_t)-1), ZURKEB_NO_SUCH_DIRECTION, 0, 0);
+    refused("first strip", call(1, 0, 0), ZURKEB_NOT_FINITE, 1, 0);
+    strips[0] = strips[1] = strips[2] = greatest;
+    strips[3] = nan;
+    refused("9 before 5", call(4, 3, 0), ZURKEB_NOT_FINITE, 1, 3);
+    strips[3] = infinity;
+    refused("first of two", call(7, 6, 4), ZURKEB_NOT_FINITE, 1, 3);
+    for (uint32_t d = 0; d < 5; d++) {
+        strips[1] = 0;
+        refused("third strip", call(3, 2, d), ZURKEB_TOO_LARGE, 1, 2);
+    }
+    static const uint32_t lone[4] = {0, 0x80000000u, 1, 0xff7fffffu};
+    for (int i = 0; i < 4; i++) {
+        strips[0] = lone[i];
+        for (uint32_t d = 0; d < 5; d++) {
+            zurkeb_boundary_answer r = call(1, 0, d);
+            same("lone strip", r.sum, lone[i]);
+            same("lone strip", (uint64_t)r.refusal + r.indexed + r.index, 0);
+        }
+    }
+}
+
+int main(int count, char **arguments) {
+    refusals();
+    long_sums();
+    random_sums(rounds_of(count, arguments, 100000));
+    return no_difference();
+}
