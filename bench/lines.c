@@ -7,8 +7,8 @@
 
 enum { LINES = 4096, QUERIES = 64 };
 
-/* A list that rises, the same list with its last two lines exchanged, which the last check refuses, and queries between the lines. */
-static uint32_t rising[LINES], falling[LINES], queries[QUERIES];
+/* A list that rises, the same list with its last line but one twice, which the last check refuses, and queries between the lines. */
+static uint32_t rising[LINES], repeating[LINES], queries[QUERIES];
 
 static uint64_t random_state = 88172645463325252u;
 static uint32_t random_word(void) {
@@ -23,10 +23,9 @@ static void draw_lines(void) {
     uint32_t pattern = 0x3f800000;
     for (int i = 0; i < LINES; i++) {
         pattern += 1 + random_word() % 4096;
-        rising[i] = falling[i] = pattern;
+        rising[i] = repeating[i] = pattern;
     }
-    falling[LINES - 2] = rising[LINES - 1];
-    falling[LINES - 1] = rising[LINES - 2];
+    repeating[LINES - 1] = rising[LINES - 2];
     for (int i = 0; i < QUERIES; i++)
         queries[i] = rising[random_word() % LINES] + random_word() % 2048;
 }
@@ -72,7 +71,7 @@ static void time_reach(uint32_t pattern) {
 
 void time_lines(void) {
     draw_lines();
-    const list full = {rising, LINES}, two = {rising, 2}, refused = {falling, LINES};
+    const list full = {rising, LINES}, two = {rising, 2}, refused = {repeating, LINES};
     const char *const names[] = {"nearest_line, 4,096 lines", "nearest_line, 2 lines", "the checks of 4,096 lines"};
     const work works[] = {{nearest_pass, &full}, {nearest_pass, &two}, {nearest_pass, &refused}};
     enum { count = sizeof works / sizeof *works };

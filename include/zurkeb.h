@@ -29,6 +29,7 @@ enum zurkeb_refusal {
     ZURKEB_LIST_LENGTH = 12, /* empty, or longer than 4,096 */
     ZURKEB_LIST_DESCENDS = 13,
     ZURKEB_OUT_TOO_SHORT = 14,
+    ZURKEB_LIST_REPEATS = 15,
     ZURKEB_STRETCH_OUTSIDE = 17,
     ZURKEB_STRIP_COUNT = 18
 };
@@ -198,14 +199,15 @@ zurkeb_slices_answer zurkeb_sum_slices(const uint32_t *a, size_t a_length, const
 zurkeb_stretch_answer zurkeb_calmer_stretch(const uint32_t *first, size_t first_length, const uint32_t *second, size_t second_length,
                                             size_t start, size_t length);
 
-/* Saved lines: offsets are binary32 patterns, ascending by value, at most 4,096. Distances are exact. */
-/* The position of the offset nearest to the query; at equal distance the smaller offset, among equal offsets the first. Refuses 12,
- * 9 (in the list with its index, the first; then the query without one), 13. */
+/* Saved lines: offsets are binary32 patterns, rising strictly by value (plus and minus zero are equal), at most 4,096. Distances are
+ * exact. */
+/* The position of the offset nearest to the query; at equal distance the smaller offset. Refuses 12, 9 (in the list with its
+ * index, the first; then the query without one), 13, 15. */
 zurkeb_position_answer zurkeb_nearest_line(const uint32_t *offsets, size_t length, uint32_t query);
 /* The positions of all offsets at most the distance away from the query, edge included, in out from its first entry on, in any order,
  * and how many; a distance below zero finds none. Refuses 12, 9 (in the list with its index; then the query, then the distance), 13,
- * and 14 where out is shorter than the number found. Entries past the last one found are unchanged, and a refused call leaves out as
- * it was. out must not overlap offsets. */
+ * 15, and 14 where out is shorter than the number found. Entries past the last one found are unchanged, and a refused call leaves out
+ * as it was. out must not overlap offsets. */
 zurkeb_reach_answer zurkeb_lines_within(const uint32_t *offsets, size_t length, uint32_t query, uint32_t distance, uint32_t *out,
                                         size_t out_length);
 

@@ -61,7 +61,7 @@ typedef struct answer {
     uint32_t refusal, number, indexed, index;
 } answer;
 
-/* The checks in their order: 12, 9 in the list, 9 beside it, 13. */
+/* The checks in their order: 12, 9 in the list, 9 beside it, 13, 15. */
 static answer checked(const uint32_t *list, size_t length, bool beside_finite) {
     answer r = {0, 0, 0, 0};
     if (length == 0 || length > MOST) {
@@ -78,6 +78,9 @@ static answer checked(const uint32_t *list, size_t length, bool beside_finite) {
     for (size_t i = 0; i + 1 < length; i++)
         if (order(value(list[i]), value(list[i + 1])) > 0)
             r.refusal = 13;
+    for (size_t i = 0; i + 1 < length && r.refusal == 0; i++)
+        if (order(value(list[i]), value(list[i + 1])) == 0)
+            r.refusal = 15;
     return r;
 }
 
@@ -190,21 +193,30 @@ static uint32_t some_pattern(uint32_t near) {
 
 static int by_value(const void *a, const void *b) { return order(value(*(const uint32_t *)a), value(*(const uint32_t *)b)); }
 
-/* A list that ascends. */
-static void fill(uint32_t *list, size_t length) {
-    for (size_t i = 0; i < length; i++)
+/* A list that rises strictly, of at most this length. Answers its length. */
+static size_t fill(uint32_t *list, size_t most) {
+    size_t length = 0;
+    for (size_t i = 0; i < most; i++)
         list[i] = some_pattern(i == 0 ? 0 : list[i - 1]);
-    qsort(list, length, sizeof *list, by_value);
+    qsort(list, most, sizeof *list, by_value);
+    for (size_t i = 0; i < most; i++)
+        if (length == 0 || order(value(list[length - 1]), value(list[i])) != 0)
+            list[length++] = list[i];
+    return length;
 }
 
 static uint32_t some_query(const uint32_t *list, size_t length) {
     return some_pattern(length == 0 ? 0 : list[random32() % length]);
 }
 
-/* Some lists are spoiled: a pattern that is not finite, two lines exchanged, or a query that is not finite. */
+/* Some lists are spoiled: a pattern that is not finite, a line saved twice, two lines exchanged, or a query that is not finite. */
 static void spoil(uint32_t *list, size_t length, uint32_t *query) {
     if (random32() % 8 == 0 && length > 0)
         list[random32() % length] = not_finite[random32() % COUNT(not_finite)];
+    if (random32() % 4 == 0 && length > 1) {
+        size_t i = 1 + random32() % (length - 1);
+        list[i] = list[i - 1] << 1 == 0 ? list[i - 1] ^ 0x80000000 : list[i - 1];
+    }
     if (random32() % 8 == 0 && length > 0) {
         size_t i = random32() % length, j = random32() % length;
         uint32_t kept = list[i];
@@ -255,6 +267,14 @@ static void compare_orders(void) {
     same("9 of the query before 13", zurkeb_nearest_line(spoiled, 2, bad).refusal, 9);
     same("9 of the query has no index", zurkeb_nearest_line(spoiled, 2, bad).indexed, 0);
     same("13", zurkeb_nearest_line(spoiled, 2, one).refusal, 13);
+    const uint32_t both[] = {one, one, two, one}, zeros[] = {0x80000000, 0}, last[] = {0, one, two, two};
+    same("13 before 15", zurkeb_nearest_line(both, 4, one).refusal, 13);
+    same("15", zurkeb_nearest_line(both, 2, one).refusal, 15);
+    same("15 for both zeros", zurkeb_nearest_line(zeros, 2, one).refusal, 15);
+    same("15 at the end", zurkeb_nearest_line(last, 4, one).refusal, 15);
+    same("9 before 15", zurkeb_nearest_line(zeros, 2, bad).refusal, 9);
+    same("one line", zurkeb_nearest_line(zeros, 1, one).refusal, 0);
+    same("15 before 14", zurkeb_lines_within(zeros, 2, one, two, &list[0], 0).refusal, 15);
     for (size_t i = 0; i < MOST + 1; i++)
         list[i] = bad;
     same("12 for 4,097 lines", zurkeb_nearest_line(list, MOST + 1, bad).refusal, 12);
@@ -283,7 +303,7 @@ int main(int count, char **arguments) {
     compare_edges();
     for (uint64_t round = 0; round < rounds; round++) {
         size_t length = round % 500 == 499 ? MOST - random32() % 3 : random32() % 24;
-        fill(list, length);
+        length = fill(list, length);
         uint32_t query = some_query(list, length);
         compare_all(length, query);
         spoil(list, length, &query);

@@ -9,11 +9,14 @@ use lib.Dec.{ltb, eqb}
 use lib.IntN.{pos}
 use lib.ListN.{length, getD, length-map, List·getD-map}
 use lib.Signed.{ltZ}
-use borrow.Author.Tests.{lt-ltb, le-ltb, not-true, not-false, le-leb, lt-leb}
+use native.Mathlib.Decide.{decLe}
+use borrow.Author.Tests.{eq-eqb, ne-eqb, lt-ltb, le-ltb, not-true, not-false, le-leb, lt-leb}
 use Rattle.theory.specs.Signed.{signed}
 use Rattle.theory.specs.Lists.{none}
+use Rattle.theory.specs.Tests.{_and_}
 use Rattle.theory.proofs.Integers.{neg-above, neg-below}
 use Rattle.theory.proofs.Lists.{none-at}
+use Rattle.theory.proofs.Tests.{and-made}
 use Rattle.format.specs.Published.{binary32}
 use Rattle.format.proofs.Signed.{Upto, Under, lt-true, lt-false}
 use Rattle.number.specs.Numbers.{value}
@@ -80,6 +83,17 @@ key-order a b {x} {y} e f =
     by : (t : Bool) → ltZ (signedPattern a) (signedPattern b) ≡ t → ltb (keyOf a) (keyOf b) ≡ t
     by true g = lt-ltb (keyOf a) (keyOf b) (keys-less (signOf a) (signOf b) (a % 2 ^ 31) (b % 2 ^ 31) (omega arith) (omega arith) (lt-true (signedPattern a) (signedPattern b) g))
     by false g = le-ltb (keyOf a) (keyOf b) (keys-most (signOf a) (signOf b) (a % 2 ^ 31) (b % 2 ^ 31) (omega arith) (omega arith) (lt-false (signedPattern a) (signedPattern b) g))
+
+-- equal keys are those of equal values
+pub key-equal : (a b : ℕ) {x y : ℕ} → x ≡ keyOf a → y ≡ keyOf b
+    → eqb x y ≡ not (ltZ (patternValue a) (patternValue b)) and not (ltZ (patternValue b) (patternValue a))
+unfolding _and_
+key-equal a b {x} {y} e f = by (decLe x y) (decLe y x) ∙ ap₂ (λ (s t : Bool). not s and not t) (key-order a b e f) (key-order b a f e)
+  where
+    by : Dec (x ≤ y) → Dec (y ≤ x) → eqb x y ≡ not (ltb x y) and not (ltb y x)
+    by (yes h) (yes g) = eq-eqb x y (omega arith) ∙ sym (and-made (ap not (le-ltb x y g)) (ap not (le-ltb y x h)))
+    by (yes h) (no g) = ne-eqb x y (λ e. omega arith) ∙ sym (rw (lt-ltb x y (omega arith), _and_))
+    by (no h) g = ne-eqb x y (λ e. omega arith) ∙ sym (rw (le-ltb x y (omega arith), lt-ltb y x (omega arith), _and_))
 
 pub key-minus : (n : ℕ) → 2 ^ 31 ≤ n → 2 ^ 31 - n % 2 ^ 31 ≡ keyOf n
 key-minus n h = rw (le-leb (2 ^ 31) n h)

@@ -1,6 +1,8 @@
 // The order of patterns by their values.
 ghost use mathlib.Core.Path.{_≡_};
+ghost use mathlib.Core.Bool.{not};
 ghost use lib.Signed.{ltZ};
+ghost use Rattle.theory.specs.Tests.{_and_};
 ghost use Rattle.binary32.specs.Patterns.{patternValue, keyOf};
 
 // A whole number that is in the order of the values.
@@ -19,4 +21,11 @@ pub fn is_below(a: u32, b: u32) -> bool
     ensures { λ r. ⌜ r ≡ ltZ (patternValue a) (patternValue b) ⌝ }
 {
     key(a) < key(b)
+}
+
+// Are the values of a and b equal? Neither is below the other.
+pub fn is_equal(a: u32, b: u32) -> bool
+    ensures { λ r. ⌜ r ≡ not (ltZ (patternValue a) (patternValue b)) and not (ltZ (patternValue b) (patternValue a)) ⌝ }
+{
+    key(a) == key(b)
 }

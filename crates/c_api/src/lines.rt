@@ -10,7 +10,7 @@ ghost use lib.ListN.{length};
 ghost use Rattle.saved_lines.specs.Lines.{nearestLine, linesFound, linesWithin, withinWritten};
 ghost use Rattle.c_answers.specs.Answers.{positionOut, reachOut};
 
-// The position of the saved offset nearest to the query. Refuses 12, 9 (in the list with its index), 13.
+// The position of the saved offset nearest to the query. Refuses 12, 9 (in the list with its index), 13, 15.
 #[no_mangle]
 pub extern "C" fn zurkeb_nearest_line(offsets: &[u32], query: u32) -> PositionAnswer
     ensures { λ r. ⌜ r ≡ positionOut (nearestLine (now (offsets .entry)) query) ⌝ }
@@ -19,7 +19,7 @@ pub extern "C" fn zurkeb_nearest_line(offsets: &[u32], query: u32) -> PositionAn
 }
 
 // The positions of all lines within the distance of the query into out, and how many. Refuses 12, 9 (in the list with its index), 13,
-// 14; a refused call leaves out as it was.
+// 15, 14; a refused call leaves out as it was.
 #[no_mangle]
 pub extern "C" fn zurkeb_lines_within(
     offsets: &[u32],

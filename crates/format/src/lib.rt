@@ -33,6 +33,7 @@ pub enum Refusal {
     ListLength,
     ListDescends,
     OutTooShort,
+    ListRepeats,
     StretchOutside,
     StripCount,
 }

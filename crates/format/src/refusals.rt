@@ -22,6 +22,7 @@ pub fn refusal_number(refusal: Refusal) -> u32
         Refusal::ListLength => 12,
         Refusal::ListDescends => 13,
         Refusal::OutTooShort => 14,
+        Refusal::ListRepeats => 15,
         Refusal::StretchOutside => 17,
         Refusal::StripCount => 18,
     }

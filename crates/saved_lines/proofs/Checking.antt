@@ -13,7 +13,7 @@ use Rattle.theory.proofs.Tests.{and-left, and-right, and-made, unless-passed, u
 use Rattle.format.specs.Given.{gives, refused, refusedAt, _then_}
 use Rattle.binary32.specs.Patterns.{finite, notFinite, patternValue, patternValues}
 use Rattle.saved_lines.specs.declared.Check.{Check}
-use Rattle.saved_lines.specs.Offsets.{nearest, descends}
+use Rattle.saved_lines.specs.Offsets.{nearest, descends, repeats}
 use Rattle.saved_lines.specs.Lines.{Examination, passed, checked, patternsChecked, orderChecked, linesChecked, Checked, nearestLine}
 
 -- ---- the refusals, one after the other
@@ -53,9 +53,13 @@ module _ (l : List ℕ) (t : Bool) where
       unfolding orderChecked
       bad-order f d = sym (unless-failed _ _ (ap not d)) ∙ by-order f
 
-      pub all-passed : t ≡ true → descends (patternValues l) ≡ false → passed ≡ linesChecked l t
+      pub bad-neighbours : t ≡ true → descends (patternValues l) ≡ false → repeats (patternValues l) ≡ true → refused 15 ≡ linesChecked l t
       unfolding orderChecked
-      all-passed f d = sym (unless-passed _ _ (ap not d)) ∙ by-order f
+      bad-neighbours f d r = sym (unless-passed _ _ (ap not d) ∙ unless-failed _ _ (ap not r)) ∙ by-order f
+
+      pub all-passed : t ≡ true → descends (patternValues l) ≡ false → repeats (patternValues l) ≡ false → passed ≡ linesChecked l t
+      unfolding orderChecked
+      all-passed f d r = sym (unless-passed _ _ (ap not d) ∙ unless-passed _ _ (ap not r)) ∙ by-order f
 
 -- ---- what passed
 -- the test passed, where what is refused is not the answer
@@ -76,12 +80,14 @@ passed-checks l t h =
     let a = went-on (leb 1 (length l) and leb (length l) 4096) h not-refused in
     let b = went-on (none notFinite l) (a .1) not-refused-at in
     let c = went-on t (b .1) not-refused in
-    let d = went-on (not (descends (patternValues l))) (c .1) not-refused in (
+    let d = went-on (not (descends (patternValues l))) (c .1) not-refused in
+    let e = went-on (not (repeats (patternValues l))) (d .1) not-refused in (
       record {
         some = leb-true 1 (length l) (and-left _ _ (a .0));
         most = leb-true (length l) 4096 (and-right _ _ (a .0));
         finite = b .0;
         order = not-true _ (d .0);
+        strict = not-true _ (e .0);
       },
       c .0,
     )

@@ -6,7 +6,7 @@ use Rattle.theory.specs.Lists.{firstWhere, none, someNeighbours}
 use Rattle.theory.specs.Tests.{_and_, _or_, unless}
 use Rattle.format.specs.Given.{gives, refused, refusedAt}
 use Rattle.binary32.specs.Patterns.{finite, notFinite, magnitudeRead, patternValue}
-use Rattle.saved_lines.specs.Offsets.{distance, nearer, isNearest, nearest, isWithin, falls, descends}
+use Rattle.saved_lines.specs.Offsets.{distance, nearer, isNearest, nearest, isWithin, falls, descends, equals, repeats}
 use Rattle.saved_lines.specs.Positions.{positionsFrom}
 use Rattle.saved_lines.specs.Lines.{patternsChecked, orderChecked, linesChecked, nearestLine, linesWithin}
 
@@ -23,58 +23,63 @@ three = 1077936128
 abbrev minus-one : ℕ
 minus-one = 3212836864
 
--- at equal distance the smaller offset, and of equal offsets the first
-tie : nearestLine (one ∷ one ∷ three ∷ []) two ≡ gives 0
-unfolding nearestLine linesChecked patternsChecked orderChecked none firstWhere notFinite finite descends someNeighbours falls nearest isNearest nearer distance patternValue magnitudeRead unless _and_ _or_
+-- at equal distance the smaller offset
+tie : nearestLine (one ∷ three ∷ []) two ≡ gives 0
+unfolding nearestLine linesChecked patternsChecked orderChecked none firstWhere notFinite finite descends repeats someNeighbours falls equals nearest isNearest nearer distance patternValue magnitudeRead unless _and_ _or_
 tie = refl
 
 -- the line at 2 ^ 25 is nearer to 2 ^ 24 than that at -1, though the differences rounded to nearest are equal
 exact : nearestLine (minus-one ∷ 1275068416 ∷ []) 1266679808 ≡ gives 1
-unfolding nearestLine linesChecked patternsChecked orderChecked none firstWhere notFinite finite descends someNeighbours falls nearest isNearest nearer distance patternValue magnitudeRead unless _and_ _or_
+unfolding nearestLine linesChecked patternsChecked orderChecked none firstWhere notFinite finite descends repeats someNeighbours falls equals nearest isNearest nearer distance patternValue magnitudeRead unless _and_ _or_
 exact = refl
 
 -- plus and minus zero are equal offsets
-zeros : nearestLine (2147483648 ∷ 0 ∷ []) 0 ≡ gives 0
-unfolding nearestLine linesChecked patternsChecked orderChecked none firstWhere notFinite finite descends someNeighbours falls nearest isNearest nearer distance patternValue magnitudeRead unless _and_ _or_
+zeros : nearestLine (2147483648 ∷ 0 ∷ []) 0 ≡ refused 15
+unfolding nearestLine linesChecked patternsChecked orderChecked none firstWhere notFinite finite descends repeats someNeighbours falls equals nearest isNearest nearer distance patternValue magnitudeRead unless _and_ _or_
 zeros = refl
 
 -- 9 comes before 13, and has the index of the first
 bad : nearestLine (three ∷ one ∷ 2139095040 ∷ 4286578688 ∷ []) two ≡ refusedAt 9 2
-unfolding nearestLine linesChecked patternsChecked orderChecked none firstWhere notFinite finite descends someNeighbours falls nearest isNearest nearer distance patternValue magnitudeRead unless _and_ _or_
+unfolding nearestLine linesChecked patternsChecked orderChecked none firstWhere notFinite finite descends repeats someNeighbours falls equals nearest isNearest nearer distance patternValue magnitudeRead unless _and_ _or_
 bad = refl
 
 -- 9 of the query too, without one
 bad-query : nearestLine (three ∷ one ∷ []) 2139095040 ≡ refused 9
-unfolding nearestLine linesChecked patternsChecked orderChecked none firstWhere notFinite finite descends someNeighbours falls nearest isNearest nearer distance patternValue magnitudeRead unless _and_ _or_
+unfolding nearestLine linesChecked patternsChecked orderChecked none firstWhere notFinite finite descends repeats someNeighbours falls equals nearest isNearest nearer distance patternValue magnitudeRead unless _and_ _or_
 bad-query = refl
 
 -- 13 wherever the list descends
 descending : nearestLine (one ∷ three ∷ two ∷ []) two ≡ refused 13
-unfolding nearestLine linesChecked patternsChecked orderChecked none firstWhere notFinite finite descends someNeighbours falls nearest isNearest nearer distance patternValue magnitudeRead unless _and_ _or_
+unfolding nearestLine linesChecked patternsChecked orderChecked none firstWhere notFinite finite descends repeats someNeighbours falls equals nearest isNearest nearer distance patternValue magnitudeRead unless _and_ _or_
 descending = refl
+
+-- 13 before 15, wherever the equal ones stand
+descending-first : nearestLine (one ∷ one ∷ three ∷ two ∷ []) two ≡ refused 13
+unfolding nearestLine linesChecked patternsChecked orderChecked none firstWhere notFinite finite descends repeats someNeighbours falls equals nearest isNearest nearer distance patternValue magnitudeRead unless _and_ _or_
+descending-first = refl
 
 -- 12 comes before all
 empty : nearestLine [] 2139095040 ≡ refused 12
-unfolding nearestLine linesChecked patternsChecked orderChecked none firstWhere notFinite finite descends someNeighbours falls nearest isNearest nearer distance patternValue magnitudeRead unless _and_ _or_
+unfolding nearestLine linesChecked patternsChecked orderChecked none firstWhere notFinite finite descends repeats someNeighbours falls equals nearest isNearest nearer distance patternValue magnitudeRead unless _and_ _or_
 empty = refl
 
 -- ---- within reach
 -- within 1 of 2, edge included
 edge : linesWithin (minus-one ∷ one ∷ two ∷ three ∷ []) two one 3 ≡ gives 3
-unfolding linesWithin positionsFrom isWithin linesChecked patternsChecked orderChecked none firstWhere notFinite finite descends someNeighbours falls distance patternValue magnitudeRead unless _and_ _or_
+unfolding linesWithin positionsFrom isWithin linesChecked patternsChecked orderChecked none firstWhere notFinite finite descends repeats someNeighbours falls equals distance patternValue magnitudeRead unless _and_ _or_
 edge = refl
 
 -- one place of `out` too few
 short : linesWithin (minus-one ∷ one ∷ two ∷ three ∷ []) two one 2 ≡ refused 14
-unfolding linesWithin positionsFrom isWithin linesChecked patternsChecked orderChecked none firstWhere notFinite finite descends someNeighbours falls distance patternValue magnitudeRead unless _and_ _or_
+unfolding linesWithin positionsFrom isWithin linesChecked patternsChecked orderChecked none firstWhere notFinite finite descends repeats someNeighbours falls equals distance patternValue magnitudeRead unless _and_ _or_
 short = refl
 
 -- a distance below zero finds none, whatever the room
 below-zero : linesWithin (one ∷ two ∷ []) two minus-one 0 ≡ gives 0
-unfolding linesWithin positionsFrom isWithin linesChecked patternsChecked orderChecked none firstWhere notFinite finite descends someNeighbours falls distance patternValue magnitudeRead unless _and_ _or_
+unfolding linesWithin positionsFrom isWithin linesChecked patternsChecked orderChecked none firstWhere notFinite finite descends repeats someNeighbours falls equals distance patternValue magnitudeRead unless _and_ _or_
 below-zero = refl
 
 -- minus zero is no distance below zero
 minus-zero : linesWithin (one ∷ two ∷ []) two 2147483648 2 ≡ gives 1
-unfolding linesWithin positionsFrom isWithin linesChecked patternsChecked orderChecked none firstWhere notFinite finite descends someNeighbours falls distance patternValue magnitudeRead unless _and_ _or_
+unfolding linesWithin positionsFrom isWithin linesChecked patternsChecked orderChecked none firstWhere notFinite finite descends repeats someNeighbours falls equals distance patternValue magnitudeRead unless _and_ _or_
 minus-zero = refl

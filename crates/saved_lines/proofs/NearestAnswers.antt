@@ -1,18 +1,20 @@
--- What nearest_line answers, in the words of request 2.
+-- What nearest_line answers, in the words of requests 2 and 7.
 use Prim.Native.Nat.{ℕ, _≤_, _<_, _^_}
-use mathlib.Core.Path.{_≡_, sym, _∙_}
+use mathlib.Core.Path.{_≡_}
 use mathlib.Core.Bool.{true}
 use mathlib.Core.List.{List}
+use mathlib.Core.Logic.{_≢_}
 use native.Mathlib.Omega.{arith}
 use lib.IntN.{ℤ}
 use lib.ListN.{length}
-use lib.Signed.{_≤ℤ_}
+use lib.Signed.{_<ℤ_}
 use Rattle.format.specs.Given.{Given, gives}
 use Rattle.binary32.specs.Patterns.{finite, patternValue, patternValues}
 use Rattle.binary32.proofs.PatternValues.{value-at, values-length}
 use Rattle.saved_lines.specs.Offsets.{distance, nearest}
 use Rattle.saved_lines.specs.Lines.{Checked, nearestLine}
-use Rattle.saved_lines.proofs.NearestLaws.{nearest-position, nearest-least, equal-first, smaller-wins}
+use Rattle.saved_lines.proofs.NearestLaws.{nearest-position, nearest-least, smaller-wins, one-tie}
+use Rattle.saved_lines.proofs.Offsets.{offsets-rise}
 use Rattle.saved_lines.proofs.Refusals.{offset, TurnedAway, checks-end}
 
 -- how far it is from the query
@@ -23,18 +25,20 @@ away l q k = distance (offset l k) (patternValue q)
 pub record Nearest (l : List ℕ) (q n : ℕ) : Type 0 where
   pub position : n < length l
   pub none-nearer : (k : ℕ) → k < length l → away l q n ≤ away l q k
-  pub smaller-wins : (k : ℕ) → k < length l → away l q k ≡ away l q n → offset l n ≤ℤ offset l k
-  pub first-wins : (k : ℕ) → offset l k ≡ offset l n → n ≤ k
+  pub smaller-wins : (k : ℕ) → k < length l → k ≢ n → away l q k ≡ away l q n → offset l n <ℤ offset l k
+  pub one-tie : (j k : ℕ) → j < k → k < length l → j ≢ n → k ≢ n → away l q j ≡ away l q n → away l q k ≡ away l q n → ⊥
 
 pub nearest-is-nearest : (l : List ℕ) (q : ℕ) → Checked l → Nearest l q (nearest (patternValues l) (patternValue q))
 nearest-is-nearest l q c =
     record {
       position = omega (arith, nearest-position vs v some, values-length l);
       none-nearer = λ k h. rw (← value-at l n, ← value-at l k) (nearest-least vs v some k (omega (arith, values-length l)));
-      smaller-wins = λ k h e.
+      smaller-wins = λ k h u e.
           rw (← value-at l n, ← value-at l k)
-          (smaller-wins vs v (c .order) k (omega (arith, values-length l)) (rw (← value-at l n, ← value-at l k) at e));
-      first-wins = λ k e. equal-first vs v some k (value-at l k ∙ e ∙ sym (value-at l n));
+          (smaller-wins vs v (offsets-rise l c) k (omega (arith, values-length l)) u (rw (← value-at l n, ← value-at l k) at e));
+      one-tie = λ j k h m u w e f.
+          one-tie vs v (offsets-rise l c) j k h (omega (arith, values-length l)) u w
+          (rw (← value-at l n, ← value-at l j) at e) (rw (← value-at l n, ← value-at l k) at f);
     }
   where
     vs : List ℤ

@@ -1,21 +1,22 @@
--- The nearest line in the words of request 2: it is a position of the list, no line is nearer, at equal distance the smaller offset
--- wins, and among equal offsets the first.
-use Prim.Native.Nat.{ℕ, zero, suc, _-_, _≤_, _<_}
+-- The nearest line in the words of requests 2 and 7: it is a position of the list, no line is nearer, at equal distance the smaller
+-- offset wins, and at most one other line is as near.
+use Prim.Native.Nat.{ℕ, zero, suc, _+_, _-_, _≤_, _<_}
 use mathlib.Core.Path.{_≡_, refl, sym, ap, _∙_}
-use mathlib.Core.Bool.{Bool, true, false}
+use mathlib.Core.Bool.{Bool, true, false, not}
 use mathlib.Core.List.{List, [], _∷_}
-use mathlib.Core.Logic.{⊎-elim}
+use mathlib.Core.Logic.{_≢_, ⊎-elim}
 use native.Mathlib.Nat.{eq-or-lt-of-le}
 use native.Mathlib.Omega.{arith}
 use native.Mathlib.Decide.{decLe}
 use lib.IntN.{ℤ, pos}
 use lib.ListN.{length, getD}
-use lib.Signed.{_≤ℤ_, _<ℤ_}
-use Rattle.theory.proofs.Integers.{parts-le, lt-parts}
+use lib.Signed.{_<ℤ_}
+use Rattle.theory.specs.Tests.{_and_}
+use Rattle.theory.proofs.Integers.{above, below, parts-lt, lt-parts, parts-eq}
 use Rattle.theory.proofs.Lists.{first-is, first-before, first-passes, first-position, none-at, none-made, neighbours-made, neighbours-fail}
-use Rattle.theory.proofs.Tests.{never}
-use Rattle.format.proofs.Signed.{Upto, Under, lt-false, make-lt}
-use Rattle.saved_lines.specs.Offsets.{distance, nearer, isNearest, nearest, falls, descends}
+use Rattle.theory.proofs.Tests.{never, and-made}
+use Rattle.format.proofs.Signed.{Upto, Under, lt-false, make-lt, make-ge}
+use Rattle.saved_lines.specs.Offsets.{distance, nearer, isNearest, nearest, falls, descends, equals, repeats}
 use Rattle.saved_lines.proofs.DistanceLaws.{distance-is, nearer-false, nearer-fails}
 
 -- the offset at a position
@@ -99,14 +100,6 @@ module _ (vs : List ℤ) (q : ℤ) where
             absurd (never (sym (least-passes {n = k} (record { position = omega (arith, nearest-position); least = λ i b. omega (arith, nearest-least i b) })) ∙ fails))
         by (no m) = omega arith
 
-    -- among equal offsets the first
-    pub equal-first : (k : ℕ) → at vs k ≡ at vs (nearest vs q) → nearest vs q ≤ k
-    equal-first k e = by (decLe (nearest vs q) k)
-      where
-        by : Dec (nearest vs q ≤ k) → nearest vs q ≤ k
-        by (yes l) = l
-        by (no l) = absurd (omega (arith, nearest-first k (omega arith), ap (λ (v : ℤ). distance v q) e))
-
   -- and these say which it is
   nearest-is : (n : ℕ) → Least vs q n → ((k : ℕ) → k < n → distance (at vs n) q < distance (at vs k) q) → nearest vs q ≡ n
   unfolding nearest
@@ -123,6 +116,10 @@ module _ (vs : List ℤ) (q : ℤ) where
 abbrev pub Ascending : List ℤ → Type 0
 Ascending vs = (j k : ℕ) → j ≤ k → k < length vs → Upto (at vs j) (at vs k)
 
+-- ---- and those that rise strictly
+abbrev pub Rising : List ℤ → Type 0
+Rising vs = (j k : ℕ) → j < k → k < length vs → Under (at vs j) (at vs k)
+
 module _ (vs : List ℤ) where
   -- 13 exactly where some offset is above the next
   pub descends-made : (k : ℕ) → suc k < length vs → at vs (suc k) <ℤ at vs k → descends vs ≡ true
@@ -133,37 +130,79 @@ module _ (vs : List ℤ) where
   unfolding descends falls
   rises h k l = lt-false (at vs (suc k)) (at vs k) (neighbours-fail falls (pos 0) vs h k l)
 
-  pub ascends : descends vs ≡ false → Ascending vs
-  ascends h j zero l m = rw (zeros l) (omega arith)
+  -- 15 exactly where some offset equals the next
+  pub repeats-made : (k : ℕ) → suc k < length vs → at vs k ≡ at vs (suc k) → repeats vs ≡ true
+  unfolding repeats equals
+  repeats-made k h e =
+      neighbours-made equals (pos 0) vs k h
+      (and-made (ap not (make-ge (at vs k) (at vs (suc k)) (rw e (omega arith)))) (ap not (make-ge (at vs (suc k)) (at vs k) (rw e (omega arith)))))
+
+  not-equal : repeats vs ≡ false → (k : ℕ) → suc k < length vs → at vs k ≡ at vs (suc k) → ⊥
+  not-equal h k l e = never (sym (repeats-made k l e) ∙ h)
+
+  -- 13 and 15 passed: the offsets rise strictly
+  pub rises-strictly : descends vs ≡ false → repeats vs ≡ false → Rising vs
+  rises-strictly d r j zero l m = absurd (omega arith)
+  rises-strictly d r j (suc k) l m = ⊎-elim last (λ b. before (rises-strictly d r j k b (omega arith))) (eq-or-lt-of-le (upto l))
     where
-      zeros : j ≤ 0 → j ≡ 0
-      zeros l = omega arith
-  ascends h j (suc k) l m = ⊎-elim (λ e. rw e (omega arith)) (λ b. omega (arith, ascends h j k (omega arith) (omega arith), rises h k m)) (eq-or-lt-of-le l)
+      upto : j < suc k → j ≤ k
+      upto l = omega arith
+
+      step : Under (at vs k) (at vs (suc k))
+      step = by (decLe (above (at vs (suc k)) + below (at vs k)) (above (at vs k) + below (at vs (suc k))))
+        where
+          by : Dec (above (at vs (suc k)) + below (at vs k) ≤ above (at vs k) + below (at vs (suc k))) → Under (at vs k) (at vs (suc k))
+          by (yes g) = absurd (not-equal r k m (parts-eq (at vs k) (at vs (suc k)) (omega (arith, rises d k m))))
+          by (no g) = omega arith
+
+      last : j ≡ k → Under (at vs j) (at vs (suc k))
+      last e = rw e step
+
+      before : Under (at vs j) (at vs k) → Under (at vs j) (at vs (suc k))
+      before b = omega (arith, step)
+
+  pub rising-upto : Rising vs → Ascending vs
+  rising-upto h j k l m = ⊎-elim (λ e. rw e (omega arith)) (λ b. omega (arith, h j k b m)) (eq-or-lt-of-le l)
 
   -- at equal distance the smaller offset wins
-  pub smaller-wins : (q : ℤ) → descends vs ≡ false → (k : ℕ) → k < length vs → distance (at vs k) q ≡ distance (at vs (nearest vs q)) q
-      → at vs (nearest vs q) ≤ℤ at vs k
-  smaller-wins q h k l e = by (decLe (nearest vs q) k)
+  pub smaller-wins : (q : ℤ) → Rising vs → (k : ℕ) → k < length vs → k ≢ nearest vs q → distance (at vs k) q ≡ distance (at vs (nearest vs q)) q
+      → at vs (nearest vs q) <ℤ at vs k
+  smaller-wins q h k l n e = by (decLe k (nearest vs q))
     where
-      by : Dec (nearest vs q ≤ k) → at vs (nearest vs q) ≤ℤ at vs k
-      by (yes m) = parts-le _ _ (ascends h (nearest vs q) k m l)
-      by (no m) = absurd (omega (arith, nearest-first vs q (omega arith) k (omega arith)))
+      by : Dec (k ≤ nearest vs q) → at vs (nearest vs q) <ℤ at vs k
+      by (yes m) = absurd (⊎-elim n (λ b. omega (arith, nearest-first vs q (omega arith) k b)) (eq-or-lt-of-le m))
+      by (no m) = parts-lt _ _ (h (nearest vs q) k (omega arith) l)
+
+  -- at most one other line is as near
+  pub one-tie : (q : ℤ) → Rising vs → (j k : ℕ) → j < k → k < length vs → j ≢ nearest vs q → k ≢ nearest vs q
+      → distance (at vs j) q ≡ distance (at vs (nearest vs q)) q → distance (at vs k) q ≡ distance (at vs (nearest vs q)) q → ⊥
+  one-tie q h j k l m u w e f =
+      omega (
+        arith,
+        distance-is (at vs j) q,
+        distance-is (at vs k) q,
+        distance-is (at vs (nearest vs q)) q,
+        lt-parts (smaller-wins q h j (omega arith) u e),
+        h j k l m,
+        e,
+        f,
+      )
 
 -- ---- which of the two lines beside the query is nearest
-module _ (vs : List ℤ) (q : ℤ) (asc : Ascending vs) (j : ℕ) (low : (k : ℕ) → k < j → Under (at vs k) q)
+module _ (vs : List ℤ) (q : ℤ) (asc : Rising vs) (j : ℕ) (low : (k : ℕ) → k < j → Under (at vs k) q)
     (high : (k : ℕ) → j ≤ k → k < length vs → Upto q (at vs k)) where
-  -- f is the first position of the offset before j, and the offset at j is not nearer
-  pub left-nearest : (f : ℕ) → f < j → j ≤ length vs → at vs f ≡ at vs (j - 1) → ((k : ℕ) → k < f → Under (at vs k) (at vs f))
-      → (j < length vs → distance (at vs f) q ≤ distance (at vs j) q) → nearest vs q ≡ f
-  left-nearest f l m e b t =
-      nearest-is vs q f
+  -- the offset at j, if there is one, is not nearer than the one before
+  pub left-nearest : 0 < j → j ≤ length vs → (j < length vs → distance (at vs (j - 1)) q ≤ distance (at vs j) q) → nearest vs q ≡ j - 1
+  left-nearest p m t =
+      nearest-is vs q (j - 1)
       (record { position = omega arith; least = λ k h. beside k h (decLe j k) })
-      (λ k h. omega (arith, distance-is (at vs f) q, distance-is (at vs k) q, b k h, low f l))
+      (λ k h. omega (arith, distance-is (at vs (j - 1)) q, distance-is (at vs k) q, asc k (j - 1) h (omega arith), low (j - 1) (omega arith)))
     where
-      beside : (k : ℕ) → k < length vs → Dec (j ≤ k) → distance (at vs f) q ≤ distance (at vs k) q
-      beside k h (yes g) = omega (arith, t (omega arith), distance-is (at vs j) q, distance-is (at vs k) q, high j (omega arith) (omega arith), asc j k g h)
+      beside : (k : ℕ) → k < length vs → Dec (j ≤ k) → distance (at vs (j - 1)) q ≤ distance (at vs k) q
+      beside k h (yes g) =
+          omega (arith, t (omega arith), distance-is (at vs j) q, distance-is (at vs k) q, high j (omega arith) (omega arith), rising-upto vs asc j k g h)
       beside k h (no g) =
-          omega (arith, distance-is (at vs f) q, distance-is (at vs k) q, low f l, rw (← e) at (asc k (j - 1) (omega arith) (omega arith)))
+          omega (arith, distance-is (at vs (j - 1)) q, distance-is (at vs k) q, low (j - 1) (omega arith), rising-upto vs asc k (j - 1) (omega arith) (omega arith))
 
   -- the offset before j, if there is one, is farther
   pub right-nearest : j < length vs → (0 < j → distance (at vs j) q < distance (at vs (j - 1)) q) → nearest vs q ≡ j
@@ -172,8 +211,8 @@ module _ (vs : List ℤ) (q : ℤ) (asc : Ascending vs) (j : ℕ) (low : (k : �
     where
       before : (k : ℕ) → k < j → distance (at vs j) q < distance (at vs k) q
       before k h =
-          omega (arith, t (omega arith), distance-is (at vs (j - 1)) q, distance-is (at vs k) q, low (j - 1) (omega arith), asc k (j - 1) (omega arith) (omega arith))
+          omega (arith, t (omega arith), distance-is (at vs (j - 1)) q, distance-is (at vs k) q, low (j - 1) (omega arith), rising-upto vs asc k (j - 1) (omega arith) (omega arith))
 
       beside : (k : ℕ) → k < length vs → Dec (j ≤ k) → distance (at vs j) q ≤ distance (at vs k) q
-      beside k h (yes g) = omega (arith, distance-is (at vs j) q, distance-is (at vs k) q, high j (omega arith) m, asc j k g h)
+      beside k h (yes g) = omega (arith, distance-is (at vs j) q, distance-is (at vs k) q, high j (omega arith) m, rising-upto vs asc j k g h)
       beside k h (no g) = omega (arith, before k (omega arith))

@@ -6,8 +6,7 @@ use mathlib.Core.List.{List}
 use native.Mathlib.Omega.{arith}
 use lib.ListN.{length, getD}
 use Rattle.theory.specs.Lists.{firstWhere}
-use Rattle.theory.proofs.Integers.{parts-eq}
-use Rattle.theory.proofs.Lists.{first-before, first-most, first-upto}
+use Rattle.theory.proofs.Lists.{first-before, first-most}
 use Rattle.format.proofs.Signed.{Upto, Under}
 use Rattle.binary32.specs.Patterns.{patternValue, patternValues}
 use Rattle.binary32.proofs.PatternValues.{value-at, values-length}
@@ -17,8 +16,8 @@ use Rattle.saved_lines.specs.Searches.{passesOf}
 use Rattle.saved_lines.specs.Lines.{Checked}
 use Rattle.saved_lines.proofs.DistanceLaws.{nearer-true, nearer-false}
 use Rattle.saved_lines.proofs.NearestLaws.{at, left-nearest, right-nearest}
-use Rattle.saved_lines.proofs.Offsets.{offsets-ascend, rising}
-use Rattle.saved_lines.proofs.Searches.{below-number, from-number, itself-passes, from-first}
+use Rattle.saved_lines.proofs.Offsets.{offsets-rise}
+use Rattle.saved_lines.proofs.Searches.{below-number, from-number, from-first}
 
 -- `next` is the first position whose offset is not below the query
 module _ (l : List ℕ) (c : Checked l) (q : ℕ) {next : ℕ} (e : next ≡ firstWhere (passesOf (AtLeast q)) l) where
@@ -38,34 +37,16 @@ module _ (l : List ℕ) (c : Checked l) (q : ℕ) {next : ℕ} (e : next ≡ fir
   pub found-first : next ≡ 0 → 0 ≡ nearest (patternValues l) (patternValue q)
   found-first z =
       sym z
-      ∙ sym (right-nearest (patternValues l) (patternValue q) (offsets-ascend l c) next low high (omega (arith, values-length l, c .some)) (λ p. absurd (omega arith)))
+      ∙ sym (right-nearest (patternValues l) (patternValue q) (offsets-rise l c) next low high (omega (arith, values-length l, c .some)) (λ p. absurd (omega arith)))
 
   -- the offset from the query on is nearer than the one before it
   pub found-right : next < length l → test ≡ true → next ≡ nearest (patternValues l) (patternValue q)
   found-right h t =
-      sym (right-nearest (patternValues l) (patternValue q) (offsets-ascend l c) next low high (omega (arith, values-length l))
+      sym (right-nearest (patternValues l) (patternValue q) (offsets-rise l c) next low high (omega (arith, values-length l))
       (λ p. rw (value-at l (next - 1), value-at l next) (nearer-true (patternValue q) (patternValue (getD l next 0)) (patternValue (getD l (next - 1) 0)) t)))
 
-  -- it is not: f is the first position with the value of the one before it
-  module _ {f : ℕ} (p : 0 < next) (g : f ≡ firstWhere (passesOf (AtLeast (getD l (next - 1) 0))) l) where
-    before : f < next
-    before = omega (arith, first-upto (passesOf (AtLeast (getD l (next - 1) 0))) 0 l (next - 1) (itself-passes (getD l (next - 1) 0)))
-
-    least : Upto (patternValue (getD l (next - 1) 0)) (patternValue (getD l f 0))
-    least =
-        from-number (getD l (next - 1) 0) (getD l f 0)
-        (from-first l c (AtLeast (getD l (next - 1) 0)) f (omega arith) (omega (arith, before, next-most)))
-
-    same : patternValue (getD l f 0) ≡ patternValue (getD l (next - 1) 0)
-    same = parts-eq (patternValue (getD l f 0)) (patternValue (getD l (next - 1) 0)) (omega (arith, least, rising l c f (next - 1) (omega (arith, before)) (omega (arith, next-most))))
-
-    farther : (k : ℕ) → k < f → Under (at (patternValues l) k) (at (patternValues l) f)
-    farther k h =
-        rw (value-at l k, value-at l f, same)
-        (below-number (getD l (next - 1) 0) (getD l k 0) (first-before (passesOf (AtLeast (getD l (next - 1) 0))) 0 l k (omega arith)))
-
-    pub found-left : (next < length l → test ≡ false) → f ≡ nearest (patternValues l) (patternValue q)
-    found-left t =
-        sym (left-nearest (patternValues l) (patternValue q) (offsets-ascend l c) next low high f before (omega (arith, next-most, values-length l))
-        (value-at l f ∙ same ∙ sym (value-at l (next - 1))) farther
-        (λ h. rw (value-at l f, value-at l next, same) (nearer-false (patternValue q) (patternValue (getD l next 0)) (patternValue (getD l (next - 1) 0)) (t (omega (arith, values-length l))))))
+  -- it is not
+  pub found-left : 0 < next → (next < length l → test ≡ false) → next - 1 ≡ nearest (patternValues l) (patternValue q)
+  found-left p t =
+      sym (left-nearest (patternValues l) (patternValue q) (offsets-rise l c) next low high p (omega (arith, next-most, values-length l))
+      (λ h. rw (value-at l (next - 1), value-at l next) (nearer-false (patternValue q) (patternValue (getD l next 0)) (patternValue (getD l (next - 1) 0)) (t (omega (arith, values-length l))))))

@@ -9,20 +9,20 @@ use native.Mathlib.Omega.{arith}
 use lib.Dec.{leb}
 use lib.IntN.{ℤ, pos}
 use lib.ListN.{length, getD}
-use lib.Signed.{_<ℤ_}
-use borrow.Author.Tests.{leb-true, leb-false, le-leb}
+use lib.Signed.{ltZ, _≤ℤ_, _<ℤ_}
+use borrow.Author.Tests.{leb-true, leb-false, le-leb, not-true}
 use Rattle.theory.specs.Lists.{firstWhere, none}
 use Rattle.theory.specs.Tests.{_and_, unless}
-use Rattle.theory.proofs.Integers.{parts-lt}
-use Rattle.theory.proofs.Lists.{first-before, first-passes, Neighbours, some-neighbours}
+use Rattle.theory.proofs.Integers.{parts-le, parts-lt, parts-eq}
+use Rattle.theory.proofs.Lists.{first-before, first-passes, Neighbours, some-neighbours, neighbours-fail}
 use Rattle.theory.proofs.Tests.{never, and-left, and-right, and-made}
 use Rattle.format.specs.Given.{Given, refused, refusedAt, _then_}
-use Rattle.format.proofs.Signed.{lt-true}
+use Rattle.format.proofs.Signed.{lt-true, lt-false}
 use Rattle.binary32.specs.Patterns.{finite, notFinite, patternValue, patternValues}
 use Rattle.binary32.proofs.PatternValues.{finite-made, finite-fails, all-finite, value-at, values-length}
-use Rattle.saved_lines.specs.Offsets.{falls, descends}
+use Rattle.saved_lines.specs.Offsets.{falls, descends, equals, repeats}
 use Rattle.saved_lines.specs.Lines.{passed, patternsChecked, orderChecked, linesChecked, Checked}
-use Rattle.saved_lines.proofs.NearestLaws.{at, descends-made}
+use Rattle.saved_lines.proofs.NearestLaws.{at, descends-made, repeats-made}
 
 -- the offset at a position of a list of patterns
 abbrev pub offset : List ℕ → ℕ → ℤ
@@ -43,12 +43,23 @@ pub record Descent (l : List ℕ) : Type 0 where
   pub inside : suc place < length l
   pub falls : offset l (suc place) <ℤ offset l place
 
+-- none is
+abbrev pub Ascends : List ℕ → Type 0
+Ascends l = (k : ℕ) → suc k < length l → offset l k ≤ℤ offset l (suc k)
+
+-- two neighbours are equal
+pub record Repetition (l : List ℕ) : Type 0 where
+  pub place : ℕ
+  pub inside : suc place < length l
+  pub equal : offset l place ≡ offset l (suc place)
+
 -- l is turned away with the answer; t: the numbers beside it are finite
 pub data TurnedAway {A : Type 0} (l : List ℕ) (t : Bool) : Given A → Type 0 where
   wrong-length : (length l ≡ 0) ⊎ (4096 < length l) → TurnedAway l t (refused 12)
   bad-pattern : {n : ℕ} → Allowed l → n < length l → finite (getD l n 0) ≡ false → AllFinite l n → TurnedAway l t (refusedAt 9 n)
   bad-number : Allowed l → AllFinite l (length l) → t ≡ false → TurnedAway l t (refused 9)
   descending : Allowed l → AllFinite l (length l) → t ≡ true → Descent l → TurnedAway l t (refused 13)
+  repeating : Allowed l → AllFinite l (length l) → t ≡ true → Ascends l → Repetition l → TurnedAway l t (refused 15)
 
 module _ (l : List ℕ) where
   wrong : leb 1 (length l) and leb (length l) 4096 ≡ false → (length l ≡ 0) ⊎ (4096 < length l)
@@ -91,17 +102,46 @@ module _ (l : List ℕ) where
   descent-descends d =
       descends-made (patternValues l) (d .place) (omega (arith, d .inside, values-length l)) (rw (value-at l (suc (d .place)), value-at l (d .place)) (d .falls))
 
+  no-descent : descends (patternValues l) ≡ false → Ascends l
+  unfolding descends falls
+  no-descent h k m =
+      rw (← value-at l (suc k), ← value-at l k)
+      (parts-le (at (patternValues l) k) (at (patternValues l) (suc k)) (lt-false (at (patternValues l) (suc k)) (at (patternValues l) k) (neighbours-fail falls (pos 0) (patternValues l) h k (omega (arith, values-length l)))))
+
+  -- 15 exactly where none is and two neighbours are equal
+  pub repetition : repeats (patternValues l) ≡ true → Repetition l
+  unfolding repeats equals
+  repetition h = by (some-neighbours equals (pos 0) (patternValues l) h)
+    where
+      same : (v w : ℤ) → not (ltZ v w) and not (ltZ w v) ≡ true → v ≡ w
+      same v w h = parts-eq v w (omega (arith, lt-false v w (not-true _ (and-left _ _ h)), lt-false w v (not-true _ (and-right _ _ h))))
+
+      by : Neighbours equals (pos 0) (patternValues l) → Repetition l
+      by n =
+          record {
+            place = n .place;
+            inside = omega (arith, n .inside, values-length l);
+            equal = sym (value-at l (n .place)) ∙ same (at (patternValues l) (n .place)) (at (patternValues l) (suc (n .place))) (n .passes) ∙ value-at l (suc (n .place));
+          }
+
+  pub repetition-repeats : Repetition l → repeats (patternValues l) ≡ true
+  repetition-repeats r =
+      repeats-made (patternValues l) (r .place) (omega (arith, r .inside, values-length l)) (value-at l (r .place) ∙ r .equal ∙ sym (value-at l (suc (r .place))))
+
 -- what follows the checks, if nothing is turned away
 pub checks-end : {A : Type 0} (l : List ℕ) (t : Bool) (next : Unit {0} → Given A) (E : Given A → Type 0)
     → ((x : Given A) → TurnedAway l t x → E x) → (Checked l → t ≡ true → E (next tt)) → E (linesChecked l t then next)
 unfolding linesChecked patternsChecked orderChecked unless
-checks-end l t next E away go-on = by (leb 1 (length l) and leb (length l) 4096) (none notFinite l) t (descends (patternValues l)) refl refl refl refl
+checks-end l t next E away go-on = by (leb 1 (length l) and leb (length l) 4096) (none notFinite l) t (descends (patternValues l)) (repeats (patternValues l)) refl refl refl refl refl
   where
-    by : (a b c d : Bool) → leb 1 (length l) and leb (length l) 4096 ≡ a → none notFinite l ≡ b → t ≡ c → descends (patternValues l) ≡ d
-        → E (unless a (refused 12) (unless b (refusedAt 9 (firstWhere notFinite l)) (unless c (refused 9) (unless (not d) (refused 13) passed))) then next)
-    by false b c d e f g h = away (refused 12) (wrong-length (wrong l e))
-    by true false c d e f g h =
+    by : (a b c d r : Bool) → leb 1 (length l) and leb (length l) 4096 ≡ a → none notFinite l ≡ b → t ≡ c → descends (patternValues l) ≡ d → repeats (patternValues l) ≡ r
+        → E
+        (unless a (refused 12) (unless b (refusedAt 9 (firstWhere notFinite l)) (unless c (refused 9) (unless (not d) (refused 13) (unless (not r) (refused 15) passed))))
+        then next)
+    by false b c d r e f g h i = away (refused 12) (wrong-length (wrong l e))
+    by true false c d r e f g h i =
         away (refusedAt 9 (firstWhere notFinite l)) (bad-pattern (allowed l e) (bad-there l f) (bad-first l f) (finite-before l))
-    by true true false d e f g h = away (refused 9) (bad-number (allowed l e) (all-finite l f) g)
-    by true true true true e f g h = away (refused 13) (descending (allowed l e) (all-finite l f) g (descent l h))
-    by true true true false e f g h = go-on (record { some = allowed l e .some; most = allowed l e .most; finite = f; order = h }) g
+    by true true false d r e f g h i = away (refused 9) (bad-number (allowed l e) (all-finite l f) g)
+    by true true true true r e f g h i = away (refused 13) (descending (allowed l e) (all-finite l f) g (descent l h))
+    by true true true false true e f g h i = away (refused 15) (repeating (allowed l e) (all-finite l f) g (no-descent l h) (repetition l i))
+    by true true true false false e f g h i = go-on (record { some = allowed l e .some; most = allowed l e .most; finite = f; order = h; strict = i }) g

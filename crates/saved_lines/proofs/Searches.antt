@@ -94,10 +94,6 @@ module _ (x n : ℕ) where
   unfolding passesOf
   from-number h = lt-false (patternValue n) (patternValue x) (not-true _ h)
 
-pub itself-passes : (x : ℕ) → passesOf (AtLeast x) x ≡ true
-unfolding passesOf
-itself-passes x = ap not (make-ge (patternValue x) (patternValue x) (omega arith))
-
 -- from the first position that passes on, all pass
 pub from-first : (l : List ℕ) → Checked l → (s : Sought) → Passes l s (firstWhere (passesOf s) l)
 from-first l c s k h m =

@@ -14,7 +14,7 @@ use Rattle.saved_lines.specs.declared.Check.{Check}
 use Rattle.saved_lines.specs.declared.Check.the-variants as check
 use Rattle.saved_lines.specs.declared.LineAnswer.{LineAnswer}
 use Rattle.saved_lines.specs.declared.LineAnswer.the-variants as answer
-use Rattle.saved_lines.specs.Offsets.{nearest, isWithin, descends}
+use Rattle.saved_lines.specs.Offsets.{nearest, isWithin, descends, repeats}
 use Rattle.saved_lines.specs.Positions.{positionsWhere, Lists}
 
 -- ---- the answers in the requests' numbers
@@ -40,11 +40,11 @@ checked (check.RefusedAt why index) = refusedAt (refusalNumber why) index
 unfoldable pub patternsChecked : (l : List ℕ) → Examination → Examination
 patternsChecked l go-on = unless (none notFinite l) (refusedAt 9 (firstWhere notFinite l)) go-on
 
--- 13 for a list that descends somewhere
+-- 13 for a list that descends somewhere, then 15 for two equal neighbours
 unfoldable pub orderChecked : List ℕ → Examination
-orderChecked l = unless (not (descends (patternValues l))) (refused 13) passed
+orderChecked l = unless (not (descends (patternValues l))) (refused 13) (unless (not (repeats (patternValues l))) (refused 15) passed)
 
--- 12 for a list that is empty or longer than 4,096, 9 for its patterns, 9 for the numbers beside it, 13
+-- 12 for a list that is empty or longer than 4,096, 9 for its patterns, 9 for the numbers beside it, 13, 15
 unfoldable pub linesChecked : (l : List ℕ) (finite : Bool) → Examination
 linesChecked l finite =
     unless (leb 1 (length l) and leb (length l) 4096) (refused 12)
@@ -56,6 +56,7 @@ pub record Checked (l : List ℕ) : Type 0 where
   pub most : length l ≤ 4096
   pub finite : none notFinite l ≡ true
   pub order : descends (patternValues l) ≡ false
+  pub strict : repeats (patternValues l) ≡ false
 
 -- ---- the calls
 -- the answer of nearest_line

@@ -1,11 +1,12 @@
 -- The offsets of saved lines as exact values, whole multiples of 2 ^ -149: their order, the one nearest to a
 -- query, and those within reach of it.
 use Prim.Native.Nat.{ℕ}
-use mathlib.Core.Bool.{Bool}
+use mathlib.Core.Bool.{Bool, not}
 use mathlib.Core.List.{List}
 use lib.Dec.{ltb}
 use lib.IntN.{ℤ, pos, natAbs, _-ℤ_}
 use lib.Signed.{leZ, ltZ}
+use Rattle.theory.specs.Tests.{_and_}
 use Rattle.theory.specs.Lists.{firstWhere, none, someNeighbours}
 
 -- |v - q|
@@ -35,3 +36,11 @@ falls v w = ltZ w v
 -- is some offset above the next?
 unfoldable pub descends : List ℤ → Bool
 descends vs = someNeighbours falls vs
+
+-- are v and w equal? Neither is below the other
+unfoldable pub equals : (v w : ℤ) → Bool
+equals v w = not (ltZ v w) and not (ltZ w v)
+
+-- is some offset equal to the next?
+unfoldable pub repeats : List ℤ → Bool
+repeats vs = someNeighbours equals vs

@@ -1,11 +1,13 @@
-// The checks of a list of offsets: its length (12), its patterns (9), the numbers beside it (9), its order (13).
+// The checks of a list of offsets: its length (12), its patterns (9), the numbers beside it (9), its order (13), equal
+// neighbours (15).
 use crate::Check;
 use binary32::finite::first_not_finite;
 use binary32::order::is_below;
+use binary32::order::is_equal;
 use format::Refusal;
 ghost use mathlib.Core.Path.{_≡_};
 ghost use Rattle.binary32.specs.Patterns.{patternValues};
-ghost use Rattle.saved_lines.specs.Offsets.{descends};
+ghost use Rattle.saved_lines.specs.Offsets.{descends, repeats};
 ghost use Rattle.saved_lines.specs.Lines.{checked, linesChecked};
 
 // Is some offset above the next?
@@ -15,6 +17,20 @@ fn is_descending(offsets: &[u32]) -> bool
     let mut i = 1;
     while i < offsets.len() {
         if is_below(offsets[i], offsets[i - 1]) {
+            return true;
+        }
+        i += 1;
+    }
+    false
+}
+
+// Is some offset equal to the next?
+fn is_repeating(offsets: &[u32]) -> bool
+    ensures { λ r. ⌜ r ≡ repeats (patternValues (now (offsets .entry))) ⌝ }
+{
+    let mut i = 1;
+    while i < offsets.len() {
+        if is_equal(offsets[i - 1], offsets[i]) {
             return true;
         }
         i += 1;
@@ -41,6 +57,9 @@ pub fn check_lines(offsets: &[u32], finite: bool) -> Check
     }
     if is_descending(offsets) {
         return Check::Refused(Refusal::ListDescends);
+    }
+    if is_repeating(offsets) {
+        return Check::Refused(Refusal::ListRepeats);
     }
     Check::Passed
 }

@@ -12,7 +12,7 @@ ghost use Rattle.binary32.specs.Patterns.{finite, patternValue, patternValues};
 ghost use Rattle.saved_lines.specs.Offsets.{nearest};
 ghost use Rattle.saved_lines.specs.Lines.{Checked, given, nearestLine};
 
-// The position, after the checks: the first offset from the query on, or the first that equals the one before it.
+// The position, after the checks: the first offset from the query on, or the one before it.
 fn nearest_position(offsets: &[u32], query: u32) -> usize
     requires { ⌜ Checked (now offsets) × (finite query ≡ true) ⌝ }
     ensures { λ r. ⌜ r ≡ nearest (patternValues (now (offsets .entry))) (patternValue query) ⌝ }
@@ -21,16 +21,15 @@ fn nearest_position(offsets: &[u32], query: u32) -> usize
     if next == 0 {
         return 0;
     }
-    let before = offsets[next - 1];
     if next < offsets.len() {
-        if is_nearer(offsets[next], before, query) {
+        if is_nearer(offsets[next], offsets[next - 1], query) {
             return next;
         }
     }
-    first_passing(offsets, Sought::AtLeast(before))
+    next - 1
 }
 
-// The position of the saved offset nearest to the query. Refuses 12, 9 (in the list with its index), 13.
+// The position of the saved offset nearest to the query. Refuses 12, 9 (in the list with its index), 13, 15.
 pub fn nearest_line(offsets: &[u32], query: u32) -> LineAnswer
     ensures { λ r. ⌜ given r ≡ nearestLine (now (offsets .entry)) query ⌝ }
 {

@@ -60,7 +60,7 @@ fn write_range(first: usize, count: usize, out: &mut [u32])
 }
 
 // The positions of all lines within the distance into out, and how many. Refuses 12, 9 (in the list with its
-// index), 13, 14.
+// index), 13, 15, 14.
 pub fn lines_within(offsets: &[u32], query: u32, distance: u32, out: &mut [u32]) -> LineAnswer
     ensures answer { λ r. ⌜ given r ≡ linesWithin (now (offsets .entry)) query distance (length (now (out .entry))) ⌝ }
     ensures written { λ r. ⌜ withinWritten (given r) (linesFound (now (offsets .entry)) query distance) (now (out .entry)) (now (out .exit)) ⌝ }

@@ -1,6 +1,6 @@
 -- `c_api::lines::zurkeb_lines_within` meets its contract.
 use Prim.Native.Nat.{ℕ}
-use mathlib.Core.Path.{_≡_, ap, subst, _∙_}
+use mathlib.Core.Path.{ap, subst, _∙_}
 use borrow.Author.Needs.{needs}
 use Rattle.format.specs.Given.{Given}
 use Rattle.saved_lines.specs.Lines.{linesFound, withinWritten}

@@ -3,7 +3,7 @@ use mathlib.Core.Path.{sym, _∙_}
 use native.Mathlib.Omega.{arith}
 use borrow.Author.Tests.{not-true, not-false}
 use borrow.Author.Needs.{needs}
-use Rattle.saved_lines.proofs.Checking.{no-lines, many-lines, bad-pattern, bad-number, bad-order, all-passed}
+use Rattle.saved_lines.proofs.Checking.{no-lines, many-lines, bad-pattern, bad-number, bad-order, bad-neighbours, all-passed}
 use Rattle.saved_lines.proofs.checks.check_lines.Statement.{statement}
 use Rattle.saved_lines.proofs.checks.check_lines.Tie as tie
 
@@ -42,11 +42,21 @@ returns-5 c =
 
 returns-6 : tie.Need-returns-6
 returns-6 c =
-    let d = c .before in
+    let r = c .before in
+    let d = r .before .before in
+    let n = d .before .before .before in
+    let s = start n .args in
+    bad-neighbours (s .offsets .now) (s .finite) (omega arith) (omega arith) (n .first-not-finite .ensures) (d .before .before .if3 .left)
+    (not-false _ (d .before .if4 .left)) (sym (d .is-descending .ensures) ∙ r .before .if5 .left) (sym (r .is-repeating .ensures) ∙ c .if6 .taken)
+
+returns-7 : tie.Need-returns-7
+returns-7 c =
+    let r = c .before in
+    let d = r .before .before in
     let n = d .before .before .before in
     let s = start n .args in
     all-passed (s .offsets .now) (s .finite) (omega arith) (omega arith) (n .first-not-finite .ensures) (d .before .before .if3 .left)
-    (not-false _ (d .before .if4 .left)) (sym (d .is-descending .ensures) ∙ c .if5 .left)
+    (not-false _ (d .before .if4 .left)) (sym (d .is-descending .ensures) ∙ r .before .if5 .left) (sym (r .is-repeating .ensures) ∙ c .if6 .left)
 
 pub check-lines-spec : {M : Type 1} → statement M
 check-lines-spec =
@@ -60,4 +70,6 @@ check-lines-spec =
     returns-4
     (λ c κs. search needs)
     returns-5
-    returns-6)
+    (λ c κs. search needs)
+    returns-6
+    returns-7)

@@ -25,33 +25,24 @@ returns c =
     let n = c .before in
     found-first (list n) (start n .pre .0) (start n .args .query) (n .first-passing .ensures) (c .if1 .taken)
 
-mul-before : tie.Need-mul-before
-mul-before c =
-    let n = c .before in
-    let h : n .first-passing .result ≤ length (list n) = most n in
-    search needs
-
-shared-slice-read-before : tie.Need-shared-slice-read-before
-shared-slice-read-before c = omega (arith, most (c .before .before))
-
 is-nearer-requires : tie.Need-is-nearer-requires
 is-nearer-requires c κs =
     let n = c .before .before .before .before in
     let f = finite-at (list n) (start n .pre .0) in
-    search (needs, f (n .first-passing .result) (c .before .if2 .taken), f (n .first-passing .result - 1) (omega (arith, most n)))
+    search (needs, f (n .first-passing .result) (c .before .before .if2 .taken), f (n .first-passing .result - 1) (omega (arith, most n)))
 
 returns-2 : tie.Need-returns-2
 returns-2 c =
     let t = c .before in
-    let n = t .before .before .before .before .before in
-    found-right (list n) (start n .pre .0) (start n .args .query) (n .first-passing .ensures) (t .before .before .if2 .taken) (sym (t .is-nearer .ensures) ∙ c .if3 .taken)
+    let b = t .before .before .before in
+    let n = b .before .before in
+    found-right (list n) (start n .pre .0) (start n .args .query) (n .first-passing .ensures) (b .if2 .taken) (sym (t .is-nearer .ensures) ∙ c .if3 .taken)
 
 returns-3 : tie.Need-returns-3
 returns-3 c =
-    let j = c .before in
-    let n = j .before .before .before in
-    found-left (list n) (start n .pre .0) (start n .args .query) (n .first-passing .ensures) (omega arith) (c .first-passing2 .ensures)
-    (λ h. ⊎-elim (λ w. sym (w .2 .ensures) ∙ w .3 .left) (λ w. absurd (omega (arith, h, w .left))) (j .if2 .came))
+    let n = c .before .before in
+    found-left (list n) (start n .pre .0) (start n .args .query) (n .first-passing .ensures) (omega arith)
+    (λ h. ⊎-elim (λ w. sym (w .3 .ensures) ∙ w .4 .left) (λ w. absurd (omega (arith, h, w .left))) (c .if2 .came))
 
 pub nearest-position-spec : {M : Type 1} → statement M
 nearest-position-spec =
@@ -60,11 +51,11 @@ nearest-position-spec =
     (λ c κs. search needs)
     returns
     (λ c. search needs)
-    mul-before
-    shared-slice-read-before
+    (λ c. search needs)
+    (λ c. search needs)
     (λ c. search needs)
     (λ c. search needs)
     is-nearer-requires
     returns-2
-    (λ c κs. search needs)
+    (λ c. search needs)
     returns-3)
