@@ -204,10 +204,10 @@ zurkeb_stretch_answer zurkeb_calmer_stretch(const uint32_t *first, size_t first_
 /* The position of the offset nearest to the query; at equal distance the smaller offset. Refuses 12, 9 (in the list with its
  * index, the first; then the query without one), 13, 15. */
 zurkeb_position_answer zurkeb_nearest_line(const uint32_t *offsets, size_t length, uint32_t query);
-/* The positions of all offsets at most the distance away from the query, edge included, in out from its first entry on, in any order,
- * and how many; a distance below zero finds none. Refuses 12, 9 (in the list with its index; then the query, then the distance), 13,
- * 15, and 14 where out is shorter than the number found. Entries past the last one found are unchanged, and a refused call leaves out
- * as it was. out must not overlap offsets. */
+/* The positions of all offsets at most the distance away from the query, edge included, in out from its first entry on, the
+ * nearest first and at equal distance the smaller offset first, and how many; a distance below zero finds none. Refuses 12, 9 (in
+ * the list with its index; then the query, then the distance), 13, 15, and 14 where out is shorter than the number found. Entries
+ * past the last one found are unchanged, and a refused call leaves out as it was. out must not overlap offsets. */
 zurkeb_reach_answer zurkeb_lines_within(const uint32_t *offsets, size_t length, uint32_t query, uint32_t distance, uint32_t *out,
                                         size_t out_length);
 

@@ -129,18 +129,29 @@ static void compare_nearest(const uint32_t *list, size_t length, uint32_t query)
     same("nearest_line index", ours.index, wanted.index);
 }
 
-/* What out holds before a call, and after it: the positions found in any order, then what it held. */
+/* What out holds before a call and after it. */
 static uint32_t before[MOST], out[MOST];
 
-static void compare_written(const bool *found, size_t length, uint32_t number) {
-    static bool seen[MOST];
-    memset(seen, 0, sizeof seen);
-    for (uint32_t k = 0; k < number; k++) {
-        same("lines_within writes a position", out[k] < length, 1);
-        same("lines_within writes one that is found", found[out[k]], 1);
-        same("lines_within writes none twice", seen[out[k]], 0);
-        seen[out[k]] = true;
-    }
+/* Two positions by exact distance from the query, and at equal distance by offset. */
+static const uint32_t *sorted_list;
+static uint32_t sorted_query;
+
+static int by_nearness(const void *a, const void *b) {
+    uint32_t i = *(const uint32_t *)a, j = *(const uint32_t *)b;
+    return better(sorted_list, sorted_query, i, j) ? -1 : better(sorted_list, sorted_query, j, i);
+}
+
+static void compare_written(const uint32_t *list, size_t length, uint32_t query, const bool *found, uint32_t number) {
+    static uint32_t wanted[MOST];
+    uint32_t count = 0;
+    for (size_t i = 0; i < length && number > 0; i++)
+        if (found[i])
+            wanted[count++] = (uint32_t)i;
+    sorted_list = list;
+    sorted_query = query;
+    qsort(wanted, count, sizeof *wanted, by_nearness);
+    for (uint32_t k = 0; k < number; k++)
+        same("lines_within position", out[k], wanted[k]);
 }
 
 static void compare_within(const uint32_t *list, size_t length, uint32_t query, uint32_t reach, size_t room) {
@@ -153,7 +164,7 @@ static void compare_within(const uint32_t *list, size_t length, uint32_t query, 
     same("lines_within found", ours.found, wanted.number);
     same("lines_within indexed", ours.indexed, wanted.indexed);
     same("lines_within index", ours.index, wanted.index);
-    compare_written(found, length, wanted.number);
+    compare_written(list, length, query, found, wanted.number);
     same("lines_within leaves the rest", memcmp(out + wanted.number, before + wanted.number, (MOST - wanted.number) * sizeof *out), 0);
 }
 

@@ -7,7 +7,7 @@ use saved_lines::nearest::nearest_line;
 use saved_lines::reach::lines_within;
 ghost use mathlib.Core.Path.{_≡_};
 ghost use lib.ListN.{length};
-ghost use Rattle.saved_lines.specs.Lines.{nearestLine, linesFound, linesWithin, withinWritten};
+ghost use Rattle.saved_lines.specs.Lines.{nearestLine, linesInOrder, linesWithin, withinWritten};
 ghost use Rattle.c_answers.specs.Answers.{positionOut, reachOut};
 
 // The position of the saved offset nearest to the query. Refuses 12, 9 (in the list with its index), 13, 15.
@@ -18,7 +18,7 @@ pub extern "C" fn zurkeb_nearest_line(offsets: &[u32], query: u32) -> PositionAn
     position_out(nearest_line(offsets, query))
 }
 
-// The positions of all lines within the distance of the query into out, and how many. Refuses 12, 9 (in the list with its index), 13,
+// The positions of all lines within the distance of the query into out, the nearest first, and how many. Refuses 12, 9 (in the list with its index), 13,
 // 15, 14; a refused call leaves out as it was.
 #[no_mangle]
 pub extern "C" fn zurkeb_lines_within(
@@ -28,8 +28,8 @@ pub extern "C" fn zurkeb_lines_within(
     out: &mut [u32],
 ) -> ReachAnswer
     ensures answer { λ r. ⌜ r ≡ reachOut (linesWithin (now (offsets .entry)) query distance (length (now (out .entry)))) ⌝ }
-    ensures written { λ _. ⌜ withinWritten (linesWithin (now (offsets .entry)) query distance (length (now (out .entry))))
-        (linesFound (now (offsets .entry)) query distance) (now (out .entry)) (now (out .exit)) ⌝ }
+    ensures written { λ _. ⌜ now (out .exit) ≡ withinWritten (linesWithin (now (offsets .entry)) query distance (length (now (out .entry))))
+        (linesInOrder (now (offsets .entry)) query distance) (now (out .entry)) ⌝ }
 {
     let answer = lines_within(offsets, query, distance, out);
     reach_out(answer)

@@ -6,9 +6,9 @@ use Rattle.theory.specs.Lists.{firstWhere, none, someNeighbours}
 use Rattle.theory.specs.Tests.{_and_, _or_, unless}
 use Rattle.format.specs.Given.{gives, refused, refusedAt}
 use Rattle.binary32.specs.Patterns.{finite, notFinite, magnitudeRead, patternValue}
-use Rattle.saved_lines.specs.Offsets.{distance, nearer, isNearest, nearest, isWithin, falls, descends, equals, repeats}
-use Rattle.saved_lines.specs.Positions.{positionsFrom}
-use Rattle.saved_lines.specs.Lines.{patternsChecked, orderChecked, linesChecked, nearestLine, linesWithin}
+use Rattle.saved_lines.specs.Offsets.{distance, nearer, isNearest, nearest, nearestOnes, isWithin, falls, descends, equals, repeats}
+use Rattle.saved_lines.specs.Positions.{positionsFrom, without}
+use Rattle.saved_lines.specs.Lines.{patternsChecked, orderChecked, linesChecked, nearestLine, linesInOrder, linesWithin}
 
 -- 1, 2, 3 and -1 as patterns
 abbrev one : ℕ
@@ -83,3 +83,8 @@ below-zero = refl
 minus-zero : linesWithin (one ∷ two ∷ []) two 2147483648 2 ≡ gives 1
 unfolding linesWithin positionsFrom isWithin linesChecked patternsChecked orderChecked none firstWhere notFinite finite descends repeats someNeighbours falls equals distance patternValue magnitudeRead unless _and_ _or_
 minus-zero = refl
+
+-- nearest first, at equal distance the smaller offset first
+in-order : linesInOrder (minus-one ∷ one ∷ two ∷ three ∷ []) two three ≡ 2 ∷ 1 ∷ 3 ∷ 0 ∷ []
+unfolding nearestOnes nearest isNearest nearer none firstWhere without positionsFrom isWithin distance patternValue magnitudeRead
+in-order = refl

@@ -9,8 +9,10 @@ pub mod Searches
 pub mod Positions
 pub mod PositionLists
 pub mod Reaches
+pub mod Walks
 -- the answers in the requests' words
 pub mod Refusals
 pub mod NearestAnswers
 pub mod ReachAnswers
+pub mod OrderLaws
 pub mod Examples

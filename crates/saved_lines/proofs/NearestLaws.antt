@@ -9,19 +9,15 @@ use native.Mathlib.Nat.{eq-or-lt-of-le}
 use native.Mathlib.Omega.{arith}
 use native.Mathlib.Decide.{decLe}
 use lib.IntN.{ℤ, pos}
-use lib.ListN.{length, getD}
+use lib.ListN.{length}
 use lib.Signed.{_<ℤ_}
 use Rattle.theory.specs.Tests.{_and_}
 use Rattle.theory.proofs.Integers.{above, below, parts-lt, lt-parts, parts-eq}
 use Rattle.theory.proofs.Lists.{first-is, first-before, first-passes, first-position, none-at, none-made, neighbours-made, neighbours-fail}
 use Rattle.theory.proofs.Tests.{never, and-made}
 use Rattle.format.proofs.Signed.{Upto, Under, lt-false, make-lt, make-ge}
-use Rattle.saved_lines.specs.Offsets.{distance, nearer, isNearest, nearest, falls, descends, equals, repeats}
+use Rattle.saved_lines.specs.Offsets.{at, distance, nearer, isNearest, nearest, falls, descends, equals, repeats}
 use Rattle.saved_lines.proofs.DistanceLaws.{distance-is, nearer-false, nearer-fails}
-
--- the offset at a position
-abbrev pub at : List ℤ → ℕ → ℤ
-at vs k = getD vs k (pos 0)
 
 -- ---- no offset is nearer to q than that at n
 pub record Least (vs : List ℤ) (q : ℤ) (n : ℕ) : Type 0 where
@@ -88,7 +84,7 @@ module _ (vs : List ℤ) (q : ℤ) where
     nearest-least k l = passed-least (nearest vs q) k (first-passes (isNearest vs q) (pos 0) vs nearest-position) l
 
     -- every line before it is farther
-    nearest-first : (k : ℕ) → k < nearest vs q → distance (at vs (nearest vs q)) q < distance (at vs k) q
+    pub nearest-first : (k : ℕ) → k < nearest vs q → distance (at vs (nearest vs q)) q < distance (at vs k) q
     unfolding nearest
     nearest-first k l = by (decLe (distance (at vs k) q) (distance (at vs (nearest vs q)) q))
       where

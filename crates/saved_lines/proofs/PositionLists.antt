@@ -1,14 +1,13 @@
 -- Lists of positions: those of the entries that pass a test, a range of them, and lists that are the same up to their order.
-use Prim.Native.Nat.{ℕ, zero, suc, _+_, _-_, _≤_, _<_}
+use Prim.Native.Nat.{ℕ, zero, suc, _+_, _≤_, _<_}
 use mathlib.Core.Path.{_≡_, refl, sym, ap, subst, _∙_}
 use mathlib.Core.Logic.{_≢_}
 use mathlib.Core.Bool.{Bool, true, false, cond}
 use mathlib.Core.List.{List, [], _∷_, _++_}
 use native.Mathlib.Nat.{add-zero, le-antisymm}
-use native.Mathlib.Numerals.{add-one}
 use native.Mathlib.Omega.{arith}
-use lib.ListN.{length, getD, drop, set}
-use lib.Seq.{drop-cons, set-at}
+use lib.ListN.{length, getD}
+use Rattle.saved_lines.specs.Positions.{without}
 use Rattle.saved_lines.specs.Positions.{positionsFrom, range, Among, Lists}
 
 -- ---- ranges
@@ -17,24 +16,11 @@ unfolding range
 range-length i zero = refl
 range-length i (suc n) = ap suc (range-length (suc i) n)
 
-pub range-none : (i : ℕ) (xs : List ℕ) → xs ≡ range i 0 ++ drop 0 xs
-unfolding range
-range-none i xs = refl
-
 -- one number more
-range-more : (i n : ℕ) (xs : List ℕ) → range i (suc n) ++ xs ≡ range i n ++ ((i + n) ∷ xs)
+pub range-more : (i n : ℕ) (xs : List ℕ) → range i (suc n) ++ xs ≡ range i n ++ ((i + n) ∷ xs)
 unfolding range
 range-more i zero xs = ap (λ (k : ℕ). k ∷ xs) (omega arith)
 range-more i (suc n) xs = ap (λ (ys : List ℕ). i ∷ ys) (range-more (suc i) n xs ∙ ap (λ (k : ℕ). range (suc i) n ++ (k ∷ xs)) (omega arith))
-
--- the next number stored after those that are written
-pub range-step : (i n v : ℕ) (old : List ℕ) {out : List ℕ} → n < length old → v ≡ i + n → out ≡ range i n ++ drop n old
-    → set out n v ≡ range i (n + 1) ++ drop (n + 1) old
-range-step i n v old {out} h e g =
-    rw (g, drop-cons old n 0) (set-at (range i n) _ (drop (suc n) old) v n (range-length i n))
-    ∙ ap (λ (k : ℕ). range i n ++ (k ∷ drop (suc n) old)) e
-    ∙ sym (range-more i n (drop (suc n) old))
-    ∙ rw add-one
 
 -- ---- positions of the entries that pass
 module _ {A : Type 0} (test : A → Bool) (d : A) where
@@ -97,22 +83,17 @@ module _ {A : Type 0} (test : A → Bool) (d : A) where
 
 -- ---- lists up to their order
 -- the numbers rise
-abbrev Rises : List ℕ → Type 0
+abbrev pub Rises : List ℕ → Type 0
 Rises xs = (j k : ℕ) → j < k → k < length xs → getD xs j 0 < getD xs k 0
 
 pub lists-itself : (xs : List ℕ) → Rises xs → Lists xs xs
 lists-itself xs h = record { all = λ n a. a; only = λ n a. a; once = λ j k l m e. omega (arith, h j k l m) }
 
-range-at : (i n k : ℕ) → k < n → getD (range i n) k 0 ≡ i + k
+pub range-at : (i n k : ℕ) → k < n → getD (range i n) k 0 ≡ i + k
 unfolding range
 range-at i zero k h = absurd (omega arith)
 range-at i (suc n) zero h = omega arith
 range-at i (suc n) (suc k) h = range-at (suc i) n k (omega arith) ∙ omega arith
-
-pub range-rises : (i n : ℕ) → Rises (range i n)
-range-rises i n j k l m =
-    let s : k < n = omega (arith, range-length i n) in
-    omega (arith, range-at i n j (omega arith), range-at i n k s)
 
 -- the entries are determined up to their order
 pub lists-determined : {found a b : List ℕ} → Lists found a → Lists found b → Lists a b
@@ -120,22 +101,18 @@ lists-determined f g = record { all = λ n x. g .all n (f .only n x); only = λ 
 
 -- ---- and so is how many there are
 -- no number twice
-abbrev Once : List ℕ → Type 0
+abbrev pub Once : List ℕ → Type 0
 Once xs = (j k : ℕ) → j < k → k < length xs → getD xs j 0 ≡ getD xs k 0 → ⊥
 
--- the list without the entry at p
-abbrev without : ℕ → List ℕ → List ℕ
-without p [] = []
-without zero (x ∷ xs) = xs
-without (suc p) (x ∷ xs) = x ∷ without p xs
-
-without-length : (p : ℕ) (xs : List ℕ) → p < length xs → length xs ≡ suc (length (without p xs))
+pub without-length : (p : ℕ) (xs : List ℕ) → p < length xs → length xs ≡ suc (length (without p xs))
+unfolding without
 without-length p [] h = absurd (omega arith)
 without-length zero (x ∷ xs) h = refl
 without-length (suc p) (x ∷ xs) h = ap suc (without-length p xs (omega arith))
 
 -- what stands at another place stays
-stays : (p r : ℕ) (xs : List ℕ) → r < length xs → p ≢ r → Among (getD xs r 0) (without p xs)
+pub stays : (p r : ℕ) (xs : List ℕ) → r < length xs → p ≢ r → Among (getD xs r 0) (without p xs)
+unfolding without
 stays p r [] h n = absurd (omega arith)
 stays zero zero (x ∷ xs) h n = absurd (n refl)
 stays zero (suc r) (x ∷ xs) h n = record { place = r; inside = omega arith; is = refl }

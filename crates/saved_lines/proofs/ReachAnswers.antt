@@ -16,11 +16,10 @@ use Rattle.format.specs.Given.{Given, gives, refused, _then_}
 use Rattle.format.proofs.Signed.{le-true, make-le}
 use Rattle.binary32.specs.Patterns.{finite, patternValue, patternValues}
 use Rattle.binary32.proofs.PatternValues.{value-at, values-length}
-use Rattle.saved_lines.specs.Offsets.{distance, isWithin}
+use Rattle.saved_lines.specs.Offsets.{at, distance, isWithin}
 use Rattle.saved_lines.specs.Positions.{Among}
 use Rattle.saved_lines.specs.Lines.{linesChecked, Checked, linesFound, linesWithin}
 use Rattle.saved_lines.proofs.DistanceLaws.{distance-is}
-use Rattle.saved_lines.proofs.NearestLaws.{at}
 use Rattle.saved_lines.proofs.PositionLists.{position-found, Passing, found-position, positions-none}
 use Rattle.saved_lines.proofs.Refusals.{offset, TurnedAway, checks-end}
 

@@ -1,36 +1,36 @@
 -- The lines within reach stand side by side, from the first that reaches the query up to the first beyond it.
 use Prim.Native.Nat.{ℕ, _+_, _-_, _≤_, _<_}
-use mathlib.Core.Path.{_≡_, refl, sym, ap, subst, _∙_}
+use mathlib.Core.Path.{_≡_, refl, sym, ap, _∙_}
 use mathlib.Core.Bool.{Bool, true, false, not}
-use mathlib.Core.List.{List, _++_}
+use mathlib.Core.List.{List}
 use native.Mathlib.Decide.{decLe}
 use native.Mathlib.Omega.{arith}
 use lib.Dec.{leb}
 use lib.IntN.{ℤ, pos, _+ℤ_}
-use lib.ListN.{length, getD, drop}
-use lib.Seq.{take-at, drop-at}
+use lib.ListN.{length, getD}
 use lib.Signed.{leZ}
 use borrow.Author.Tests.{not-true, not-false, le-leb, lt-leb}
 use Rattle.theory.specs.Lists.{firstWhere}
 use Rattle.theory.specs.Tests.{_and_, unless}
 use Rattle.theory.proofs.Lists.{first-before, first-most}
 use Rattle.theory.proofs.Tests.{unless-passed, unless-failed}
-use Rattle.theory.proofs.Integers.{sum-parts}
+use Rattle.theory.proofs.Integers.{above, below, sum-parts}
 use Rattle.format.specs.Given.{gives, refused, _then_}
 use Rattle.format.proofs.Signed.{Upto, apart, le-true, le-false, make-le}
 use Rattle.binary32.specs.Patterns.{finite, patternValue, patternValues}
 use Rattle.binary32.proofs.PatternValues.{value-at, values-length}
 use Rattle.saved_lines.specs.declared.Check.{Check}
 use Rattle.saved_lines.specs.declared.Check.the-variants as check
-use Rattle.saved_lines.specs.declared.Sought.the-variants.{Reaching, Beyond}
-use Rattle.saved_lines.specs.Positions.{range, Lists}
-use Rattle.saved_lines.specs.Offsets.{distance, isWithin}
+use Rattle.saved_lines.specs.declared.Sought.the-variants.{AtLeast, Reaching, Beyond}
+use Rattle.saved_lines.specs.Positions.{range}
+use Rattle.saved_lines.specs.Offsets.{at, distance, isWithin}
 use Rattle.saved_lines.specs.Searches.{passesOf}
-use Rattle.saved_lines.specs.Lines.{Examination, checked, linesChecked, Checked, linesFound, linesWithin, Listed}
+use Rattle.saved_lines.specs.Lines.{Examination, checked, linesChecked, Checked, linesFound, linesWithin}
+use Rattle.saved_lines.specs.Walks.{Around}
 use Rattle.saved_lines.proofs.DistanceLaws.{distance-is}
-use Rattle.saved_lines.proofs.NearestLaws.{at}
 use Rattle.saved_lines.proofs.Searches.{from-first}
-use Rattle.saved_lines.proofs.PositionLists.{range-length, range-rises, positions-none, positions-range, lists-itself}
+use Rattle.saved_lines.proofs.Positions.{next-most, below-query, from-query}
+use Rattle.saved_lines.proofs.PositionLists.{range-length, positions-none, positions-range}
 
 -- ---- within reach: v + r is at least q, and v is at most q + r
 module _ (q r v : ℤ) where
@@ -60,6 +60,10 @@ module _ (q r v : ℤ) where
       by : (t : Bool) → isWithin q r v ≡ t → t ≡ false
       by true e = absurd (omega (arith, within-parts e .1, le-false v (q +ℤ r) h))
       by false e = refl
+
+nothing : (i : ℕ) → range i 0 ≡ range 0 0
+unfolding range
+nothing i = refl
 
 -- ---- the two ends
 reached-at : (q d n : ℕ) → passesOf (Reaching q d) n ≡ leZ (patternValue q) (patternValue n +ℤ patternValue d)
@@ -97,7 +101,7 @@ module _ (l : List ℕ) (c : Checked l) (q d : ℕ) {first end : ℕ} (e : first
       (sym (reached-at q d (getD l k 0)) ∙ from-first l c (Reaching q d) k (omega arith) (omega (arith, end-most)))
       (not-false _ (sym (beyond-at q d (getD l k 0)) ∙ first-before (passesOf (Beyond q d)) 0 l k (omega arith)))
 
-  pub none-found : end ≤ first → range 0 0 ≡ linesFound l q d
+  none-found : end ≤ first → range 0 0 ≡ linesFound l q d
   unfolding range
   none-found h = sym (positions-none within (pos 0) 0 (patternValues l) fails)
     where
@@ -108,14 +112,60 @@ module _ (l : List ℕ) (c : Checked l) (q d : ℕ) {first end : ℕ} (e : first
           by (yes b) = fails-after k b m
           by (no b) = fails-before k (omega arith)
 
-  pub some-found : first < end → range first (end - first) ≡ linesFound l q d
+  some-found : first < end → range first (end - first) ≡ linesFound l q d
   some-found h =
       sym (positions-range within (pos 0) (patternValues l) 0 first (end - first) (omega (arith, end-most, values-length l)) fails-before
       (λ k a b. passes-between k a (omega arith)) (λ k a b. fails-after k (omega arith) b)
       ∙ ap (λ (i : ℕ). range i (end - first)) (omega arith))
 
-  pub found-most : first < end → first + (end - first) ≤ 4096
-  found-most h = omega (arith, end-most, c .most)
+  -- what is within reach has a distance of at least zero
+  not-below-zero : first < end → below (patternValue d) ≤ above (patternValue d)
+  not-below-zero h =
+      let w = within-parts (patternValue q) (patternValue d) (at (patternValues l) first) (passes-between first (omega arith) h) in
+      omega (arith, w .0, w .1, sum-parts (at (patternValues l) first) (patternValue d), sum-parts (patternValue q) (patternValue d))
+
+  -- the walk starts between the two ends
+  module _ {split : ℕ} (s : split ≡ firstWhere (passesOf (AtLeast q)) l) where
+    pub around-none : end ≤ first → Around l q d split split split
+    around-none h =
+        let z : split - split ≡ 0 = omega arith in
+        record { found = rw z (nothing split ∙ none-found h); walk = record { low = omega arith; below = omega arith; above = omega arith; high = omega arith; most = next-most l c q s } }
+
+    starts : first < end → first ≤ split
+    starts h = by (decLe first split)
+      where
+        by : Dec (first ≤ split) → first ≤ split
+        by (yes a) = a
+        by (no a) =
+            absurd
+            (omega (
+              arith,
+              not-below-zero h,
+              first-most (passesOf (Reaching q d)) 0 l,
+              le-false (patternValue q) (patternValue (getD l split 0) +ℤ patternValue d) (sym (reached-at q d (getD l split 0)) ∙ first-before (passesOf (Reaching q d)) 0 l split (omega arith)),
+              sum-parts (patternValue (getD l split 0)) (patternValue d),
+              rw (value-at l split) at (from-query l c q s split (omega arith) (omega (arith, values-length l, first-most (passesOf (Reaching q d)) 0 l))),
+            ))
+
+    ends : first < end → split ≤ end
+    ends h = by (decLe split end)
+      where
+        by : Dec (split ≤ end) → split ≤ end
+        by (yes a) = a
+        by (no a) =
+            absurd
+            (omega (
+              arith,
+              not-below-zero h,
+              le-false (patternValue (getD l end 0)) (patternValue q +ℤ patternValue d)
+                  (not-true _ (sym (beyond-at q d (getD l end 0)) ∙ from-first l c (Beyond q d) end (omega arith) (omega (arith, next-most l c q s)))),
+              sum-parts (patternValue q) (patternValue d),
+              rw (value-at l end) at (below-query l c q s end (omega arith)),
+            ))
+
+    pub around-some : first < end → Around l q d first split end
+    around-some h =
+        record { found = some-found h; walk = record { low = starts h; below = omega arith; above = omega arith; high = ends h; most = end-most } }
 
 -- ---- the answers of lines_within, after a check that was told
 module _ (l : List ℕ) (q d room : ℕ) {r k : Check} (e : checked r ≡ linesChecked l (finite q and finite d)) (f : r ≡ k) where
@@ -137,11 +187,3 @@ module _ (l : List ℕ) (q d room : ℕ) {r : Check} (e : checked r ≡ linesChe
   pub within-found : n ≤ room → gives n ≡ linesWithin l q d room
   within-found h =
       ap gives count-is ∙ sym (unless-passed _ _ (le-leb (length (linesFound l q d)) room (omega (arith, count-is)))) ∙ within-after l q d room e f
-
--- what is written
-pub within-listed : (found : List ℕ) (first n : ℕ) → range first n ≡ found → (old : List ℕ) {new : List ℕ} → new ≡ range first n ++ drop n old → Listed found n old new
-within-listed found first n e old g =
-    record {
-      listed = rw (g, take-at (range first n) (drop n old) n (range-length first n)) (subst (λ (xs : List ℕ). Lists xs (range first n)) e (lists-itself (range first n) (range-rises first n)));
-      rest = rw g (drop-at (range first n) (drop n old) n (range-length first n));
-    }

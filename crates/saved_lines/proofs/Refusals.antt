@@ -20,9 +20,9 @@ use Rattle.format.specs.Given.{Given, refused, refusedAt, _then_}
 use Rattle.format.proofs.Signed.{lt-true, lt-false}
 use Rattle.binary32.specs.Patterns.{finite, notFinite, patternValue, patternValues}
 use Rattle.binary32.proofs.PatternValues.{finite-made, finite-fails, all-finite, value-at, values-length}
-use Rattle.saved_lines.specs.Offsets.{falls, descends, equals, repeats}
+use Rattle.saved_lines.specs.Offsets.{at, falls, descends, equals, repeats}
 use Rattle.saved_lines.specs.Lines.{passed, patternsChecked, orderChecked, linesChecked, Checked}
-use Rattle.saved_lines.proofs.NearestLaws.{at, descends-made, repeats-made}
+use Rattle.saved_lines.proofs.NearestLaws.{descends-made, repeats-made}
 
 -- the offset at a position of a list of patterns
 abbrev pub offset : List ℕ → ℕ → ℤ

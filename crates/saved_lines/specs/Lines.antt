@@ -2,9 +2,9 @@
 use Prim.Native.Nat.{ℕ, _≤_}
 use mathlib.Core.Path.{_≡_}
 use mathlib.Core.Bool.{Bool, true, false, not}
-use mathlib.Core.List.{List}
+use mathlib.Core.List.{List, _++_}
 use lib.Dec.{leb}
-use lib.ListN.{length, take, drop}
+use lib.ListN.{length, drop}
 use Rattle.theory.specs.Lists.{firstWhere, none}
 use Rattle.theory.specs.Tests.{_and_, unless}
 use Rattle.format.specs.Given.{Given, gives, refused, refusedAt, _then_}
@@ -14,8 +14,8 @@ use Rattle.saved_lines.specs.declared.Check.{Check}
 use Rattle.saved_lines.specs.declared.Check.the-variants as check
 use Rattle.saved_lines.specs.declared.LineAnswer.{LineAnswer}
 use Rattle.saved_lines.specs.declared.LineAnswer.the-variants as answer
-use Rattle.saved_lines.specs.Offsets.{nearest, isWithin, descends, repeats}
-use Rattle.saved_lines.specs.Positions.{positionsWhere, Lists}
+use Rattle.saved_lines.specs.Offsets.{nearest, nearestFirst, isWithin, descends, repeats}
+use Rattle.saved_lines.specs.Positions.{positionsWhere}
 
 -- ---- the answers in the requests' numbers
 abbrev pub given : LineAnswer → Given ℕ
@@ -67,19 +67,19 @@ nearestLine l query = linesChecked l (finite query) then λ _. gives (nearest (p
 abbrev pub linesFound : (l : List ℕ) (query distance : ℕ) → List ℕ
 linesFound l query distance = positionsWhere (isWithin (patternValue query) (patternValue distance)) (patternValues l)
 
+-- the same, the nearest first
+abbrev pub linesInOrder : (l : List ℕ) (query distance : ℕ) → List ℕ
+linesInOrder l query distance = nearestFirst (patternValues l) (patternValue query) (linesFound l query distance)
+
 -- the answer of lines_within, where `room` is the length of the slice that is lent: 14 where more are found, else how many
 unfoldable pub linesWithin : (l : List ℕ) (query distance room : ℕ) → Given ℕ
 linesWithin l query distance room =
     linesChecked l (finite query and finite distance)
     then λ _. unless (leb (length (linesFound l query distance)) room) (refused 14) (gives (length (linesFound l query distance)))
 
--- the slice held `old` and holds `new`, where n positions were found: they stand first, in any order, and the rest is unchanged
-pub record Listed (found : List ℕ) (n : ℕ) (old new : List ℕ) : Type 0 where
-  pub listed : Lists found (take n new)
-  pub rest : drop n new ≡ drop n old
-
--- what the slice holds afterwards; a refusal changes nothing
-abbrev pub withinWritten : Given ℕ → (found old new : List ℕ) → Type 0
-withinWritten (gives n) found old new = Listed found n old new
-withinWritten (refused number) found old new = new ≡ old
-withinWritten (refusedAt number index) found old new = new ≡ old
+-- what the lent slice holds after the answer, where it held `old` and the positions `listed` were found: they stand first, and the rest
+-- is unchanged; a refusal changes nothing
+abbrev pub withinWritten : Given ℕ → (listed old : List ℕ) → List ℕ
+withinWritten (gives n) listed old = listed ++ drop n old
+withinWritten (refused number) listed old = old
+withinWritten (refusedAt number index) listed old = old

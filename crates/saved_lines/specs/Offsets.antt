@@ -1,13 +1,15 @@
 -- The offsets of saved lines as exact values, whole multiples of 2 ^ -149: their order, the one nearest to a
--- query, and those within reach of it.
-use Prim.Native.Nat.{ℕ}
+-- query, the order from the nearest on, and those within reach.
+use Prim.Native.Nat.{ℕ, zero, suc}
 use mathlib.Core.Bool.{Bool, not}
-use mathlib.Core.List.{List}
+use mathlib.Core.List.{List, [], _∷_, map}
 use lib.Dec.{ltb}
 use lib.IntN.{ℤ, pos, natAbs, _-ℤ_}
+use lib.ListN.{length, getD}
 use lib.Signed.{leZ, ltZ}
 use Rattle.theory.specs.Tests.{_and_}
 use Rattle.theory.specs.Lists.{firstWhere, none, someNeighbours}
+use Rattle.saved_lines.specs.Positions.{without}
 
 -- |v - q|
 unfoldable pub distance : (v q : ℤ) → ℕ
@@ -25,6 +27,25 @@ isNearest vs q v = none (λ (w : ℤ). nearer q w v) vs
 unfoldable pub nearest : (vs : List ℤ) (q : ℤ) → ℕ
 nearest vs q = firstWhere (isNearest vs q) vs
 
+-- ---- nearest first
+-- the offset at a position
+abbrev pub at : List ℤ → ℕ → ℤ
+at vs k = getD vs k (pos 0)
+
+-- where the one nearest to q stands among the positions ps of the list vs
+abbrev pub nearestPlace : (vs : List ℤ) (q : ℤ) (ps : List ℕ) → ℕ
+nearestPlace vs q ps = nearest (map (at vs) ps) q
+
+-- the nearest of the positions ps, then the nearest of those that are left, and so on: n of them
+unfoldable pub nearestOnes : (vs : List ℤ) (q : ℤ) (n : ℕ) (ps : List ℕ) → List ℕ
+nearestOnes vs q zero ps = []
+nearestOnes vs q (suc n) ps = getD ps (nearestPlace vs q ps) 0 ∷ nearestOnes vs q n (without (nearestPlace vs q ps) ps)
+
+-- all of them
+abbrev pub nearestFirst : (vs : List ℤ) (q : ℤ) (ps : List ℕ) → List ℕ
+nearestFirst vs q ps = nearestOnes vs q (length ps) ps
+
+-- ---- reach and order
 -- is v at most r away from q? Where r is below zero, nothing is
 unfoldable pub isWithin : (q r v : ℤ) → Bool
 isWithin q r v = leZ (pos (distance v q)) r

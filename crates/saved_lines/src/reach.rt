@@ -1,25 +1,29 @@
-// All lines within a distance of a query.
+// All lines within a distance of a query, the nearest first.
 use crate::Check;
 use crate::LineAnswer;
 use crate::Sought;
 use crate::checks::check_lines;
+use crate::distances::is_nearer;
 use crate::search::first_passing;
 use binary32::finite::is_finite;
 use format::Refusal;
 ghost use mathlib.Core.Path.{_≡_};
 ghost use mathlib.Core.Bool.{true};
 ghost use mathlib.Core.List.{_++_};
-ghost use Prim.Native.Nat.{_+_, _≤_};
+ghost use Prim.Native.Nat.{_+_, _-_, _≤_, _<_};
 ghost use lib.ListN.{length, drop};
 ghost use Rattle.theory.specs.Tests.{_and_};
-ghost use Rattle.binary32.specs.Patterns.{finite};
+ghost use Rattle.binary32.specs.Patterns.{finite, patternValue, patternValues};
+ghost use Rattle.saved_lines.specs.Offsets.{nearestFirst};
 ghost use Rattle.saved_lines.specs.Positions.{range};
-ghost use Rattle.saved_lines.specs.Lines.{Checked, given, linesFound, linesWithin, withinWritten};
+ghost use Rattle.saved_lines.specs.Lines.{Checked, given, linesInOrder, linesWithin, withinWritten};
+ghost use Rattle.saved_lines.specs.Walks.{Walk, Next, Around};
 
-// `count` positions from `first` on.
+// The positions from `first` up to `end`; those up to `split` are below the query.
 pub struct Range {
     pub first: usize,
-    pub count: usize,
+    pub split: usize,
+    pub end: usize,
 }
 
 fn are_finite(query: u32, distance: u32) -> bool
@@ -34,47 +38,94 @@ fn are_finite(query: u32, distance: u32) -> bool
 // The lines found stand side by side: from the first that reaches the query on, up to the first beyond it.
 fn range_within(offsets: &[u32], query: u32, distance: u32) -> Range
     requires { ⌜ Checked (now offsets) × (finite query and finite distance ≡ true) ⌝ }
-    ensures { λ r. ⌜ (range (r .first) (r .count) ≡ linesFound (now (offsets .entry)) query distance) × (r .first + r .count ≤ 4096) ⌝ }
+    ensures { λ r. ⌜ Around (now (offsets .entry)) query distance (r .first) (r .split) (r .end) ⌝ }
 {
     let first = first_passing(offsets, Sought::Reaching(query, distance));
     let end = first_passing(offsets, Sought::Beyond(query, distance));
+    let split = first_passing(offsets, Sought::AtLeast(query));
     if end <= first {
-        return Range { first: 0, count: 0 };
+        return Range {
+            first: split,
+            split: split,
+            end: split,
+        };
     }
     Range {
         first: first,
-        count: end - first,
+        split: split,
+        end: end,
     }
 }
 
-// The numbers of a range into the first entries of out.
-fn write_range(first: usize, count: usize, out: &mut [u32])
-    requires { ⌜ (count ≤ length (now out)) × (first + count ≤ 4096) ⌝ }
-    ensures { λ _. ⌜ now (out .exit) ≡ range first count ++ drop count (now (out .entry)) ⌝ }
+// The nearest line of those from `first` up to `left` and from `right` up to `end`: the one before `left`, unless the one at `right` is
+// nearer.
+fn next_line(
+    offsets: &[u32],
+    query: u32,
+    first: usize,
+    left: usize,
+    right: usize,
+    end: usize,
+) -> usize
+    requires { ⌜ Checked (now offsets) × (finite query ≡ true) × Walk (now offsets) query first left right end × (first + right < left + end) ⌝ }
+    ensures { λ r. ⌜ Next (now (offsets .entry)) query first left right end r ⌝ }
 {
+    if left == first {
+        return right;
+    }
+    if right == end {
+        return left - 1;
+    }
+    if is_nearer(offsets[right], offsets[left - 1], query) {
+        return right;
+    }
+    left - 1
+}
+
+// The positions from `first` up to `end` into the first entries of out, the nearest first: two positions walk outward from the query.
+fn write_outward(
+    offsets: &[u32],
+    query: u32,
+    first: usize,
+    split: usize,
+    end: usize,
+    out: &mut [u32],
+)
+    requires { ⌜ Checked (now offsets) × (finite query ≡ true) × Walk (now offsets) query first split split end × (end - first ≤ length (now out)) ⌝ }
+    ensures { λ _. ⌜ now (out .exit) ≡ nearestFirst (patternValues (now (offsets .entry))) (patternValue query) (range first (end - first)) ++ drop (end - first) (now (out .entry)) ⌝ }
+{
+    let count = end - first;
+    let mut left = split;
+    let mut right = split;
     let mut i = 0;
     while i < count {
-        out[i] = (first + i) as u32;
+        let next = next_line(offsets, query, first, left, right, end);
+        out[i] = next as u32;
         i += 1;
+        if next < left {
+            left = next;
+        } else {
+            right = next + 1;
+        }
     }
 }
 
-// The positions of all lines within the distance into out, and how many. Refuses 12, 9 (in the list with its
+// The positions of all lines within the distance into out, the nearest first, and how many. Refuses 12, 9 (in the list with its
 // index), 13, 15, 14.
 pub fn lines_within(offsets: &[u32], query: u32, distance: u32, out: &mut [u32]) -> LineAnswer
     ensures answer { λ r. ⌜ given r ≡ linesWithin (now (offsets .entry)) query distance (length (now (out .entry))) ⌝ }
-    ensures written { λ r. ⌜ withinWritten (given r) (linesFound (now (offsets .entry)) query distance) (now (out .entry)) (now (out .exit)) ⌝ }
+    ensures written { λ r. ⌜ now (out .exit) ≡ withinWritten (given r) (linesInOrder (now (offsets .entry)) query distance) (now (out .entry)) ⌝ }
 {
     match check_lines(offsets, are_finite(query, distance)) {
         Check::Refused(why) => LineAnswer::Refused(why),
         Check::RefusedAt(why, index) => LineAnswer::RefusedAt(why, index),
         Check::Passed => {
             let found = range_within(offsets, query, distance);
-            let count = found.count;
+            let count = found.end - found.first;
             if out.len() < count {
                 return LineAnswer::Refused(Refusal::OutTooShort);
             }
-            write_range(found.first, count, out);
+            write_outward(offsets, query, found.first, found.split, found.end, out);
             LineAnswer::Found(count as u32)
         }
     }

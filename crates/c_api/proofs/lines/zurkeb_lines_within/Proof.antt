@@ -1,9 +1,9 @@
 -- `c_api::lines::zurkeb_lines_within` meets its contract.
 use Prim.Native.Nat.{ℕ}
-use mathlib.Core.Path.{ap, subst, _∙_}
+use mathlib.Core.Path.{ap, _∙_}
 use borrow.Author.Needs.{needs}
 use Rattle.format.specs.Given.{Given}
-use Rattle.saved_lines.specs.Lines.{linesFound, withinWritten}
+use Rattle.saved_lines.specs.Lines.{linesInOrder, withinWritten}
 use Rattle.c_answers.specs.Answers.{reachOut}
 use Rattle.c_api.proofs.lines.zurkeb_lines_within.Statement.{statement}
 use Rattle.c_api.proofs.lines.zurkeb_lines_within.Tie as tie
@@ -13,7 +13,7 @@ returns c =
     let j = c .before .before .before in
     let s = j .before .before .before .before .args in (
       c .reach-out .ensures ∙ ap reachOut (j .lines-within .ensures .0),
-      subst (λ (x : Given ℕ). withinWritten x (linesFound (s .offsets .now) (s .query) (s .distance)) (s .out .now) (j .lines-within .last .1 .1 .1 .0)) (j .lines-within .ensures .0) (j .lines-within .ensures .1),
+      j .lines-within .ensures .1 ∙ ap (λ (x : Given ℕ). withinWritten x (linesInOrder (s .offsets .now) (s .query) (s .distance)) (s .out .now)) (j .lines-within .ensures .0),
     )
 
 pub zurkeb-lines-within-spec : {M : Type 1} → statement M

@@ -1,14 +1,19 @@
 -- `saved_lines::reach::lines_within` meets its contract.
-use Prim.Native.Nat.{ℕ}
+use Prim.Native.Nat.{ℕ, _-_}
 use mathlib.Core.Path.{_≡_, refl, sym, ap, _∙_}
-use mathlib.Core.List.{List}
-use lib.ListN.{length}
+use mathlib.Core.Bool.{true}
+use mathlib.Core.List.{List, _++_}
+use native.Mathlib.Omega.{arith}
+use lib.ListN.{length, drop}
 use borrow.Author.Needs.{needs}
 use Rattle.theory.specs.Tests.{_and_}
-use Rattle.binary32.specs.Patterns.{finite}
-use Rattle.saved_lines.specs.Lines.{checked, linesChecked, linesFound}
+use Rattle.theory.proofs.Tests.{and-left}
+use Rattle.binary32.specs.Patterns.{finite, patternValue, patternValues}
+use Rattle.saved_lines.specs.declared.Check.the-variants.{Passed}
+use Rattle.saved_lines.specs.Offsets.{nearestFirst}
+use Rattle.saved_lines.specs.Lines.{checked, linesChecked, Checked}
 use Rattle.saved_lines.proofs.Checking.{passed-checks}
-use Rattle.saved_lines.proofs.Reaches.{within-after, within-short, within-found, within-listed}
+use Rattle.saved_lines.proofs.Reaches.{within-after, within-short, within-found}
 use Rattle.saved_lines.proofs.reach.lines_within.Statement.{statement}
 use Rattle.saved_lines.proofs.reach.lines_within.Tie as tie
 
@@ -32,18 +37,40 @@ module _ (j : tie.After-check-lines) where
   told : checked (j .check-lines .result) ≡ linesChecked list (finite query and finite distance)
   told = j .check-lines .ensures ∙ ap (linesChecked list) (j .before .are-finite .ensures)
 
+  there : j .check-lines .result ≡ Passed → Checked list × (finite query and finite distance ≡ true)
+  there e = passed-checks list (finite query and finite distance) (sym told ∙ ap checked e)
+
 range-within-requires : tie.Need-range-within-requires
-range-within-requires c κs =
-    let j = c .before .before in
-    passed-checks (list j) (finite (query j) and finite (distance j)) (sym (told j) ∙ ap checked (c .enum-told .given .1))
+range-within-requires c κs = there (c .before .before) (c .enum-told .given .1)
+
+sub-count : tie.Need-sub-count
+sub-count c =
+    let w = c .before .range-within .ensures .walk in
+    omega (arith, w .low, w .high)
 
 returns : tie.Need-returns
 returns c =
-    let g = c .before in
+    let g = c .before .before in
     let t = g .before in
     let j = t .before .before in
     let n = g .range-within .result in
-    (within-short (list j) (query j) (distance j) (room j) (told j) (t .enum-told .given .1) (n .first) (n .count) (g .range-within .ensures .0) (c .if1 .taken), refl)
+    (within-short (list j) (query j) (distance j) (room j) (told j) (t .enum-told .given .1) (n .first) (n .end - n .first) (g .range-within .ensures .found) (c .if1 .taken), refl)
+
+write-outward-requires : tie.Need-write-outward-requires
+write-outward-requires c κs =
+    let e = c .before in
+    let g = e .before .before in
+    let t = g .before in
+    let j = t .before .before in
+    let p = there j (t .enum-told .given .1) in
+    (p .0, and-left _ _ (p .1), g .range-within .ensures .walk, e .if1 .left)
+
+cast-count : tie.Need-cast-t19
+cast-count c =
+    let g = c .before .before .before .before .before .before in
+    let t = g .before in
+    let j = t .before .before in
+    omega (arith, there j (t .enum-told .given .1) .0 .most, g .range-within .ensures .walk .most)
 
 returns-2 : tie.Need-returns-2
 returns-2 c =
@@ -59,12 +86,13 @@ returns-4 : tie.Need-returns-4
 returns-4 c =
     let w = c .before .before in
     let e = w .before .before in
-    let g = e .before in
+    let g = e .before .before in
     let t = g .before in
     let j = t .before .before in
     let n = g .range-within .result in (
-      within-found (list j) (query j) (distance j) (room j) (told j) (t .enum-told .given .1) (n .first) (n .count) (g .range-within .ensures .0) (e .if1 .left),
-      within-listed (linesFound (list j) (query j) (distance j)) (n .first) (n .count) (g .range-within .ensures .0) (start j .args .out .now) (w .write-range .ensures),
+      within-found (list j) (query j) (distance j) (room j) (told j) (t .enum-told .given .1) (n .first) (n .end - n .first) (g .range-within .ensures .found) (e .if1 .left),
+      w .write-outward .ensures
+          ∙ ap (λ (ps : List ℕ). nearestFirst (patternValues (list j)) (patternValue (query j)) ps ++ drop (n .end - n .first) (start j .args .out .now)) (g .range-within .ensures .found),
     )
 
 pub lines-within-spec : {M : Type 1} → statement M
@@ -77,9 +105,10 @@ lines-within-spec =
     (λ c. search needs)
     (λ c. search needs)
     range-within-requires
+    sub-count
     returns
-    (λ c κs. search needs)
-    (λ c. search needs)
+    write-outward-requires
+    cast-count
     returns-2
     returns-3
     (λ c. search needs)
