@@ -1,6 +1,5 @@
 -- The laws that the calls' proofs go by, and the laws that a user expects.
 pub mod Entered
-pub mod DecimalFormat
 -- what a call's answer says of the exact result
 pub mod Calls
 pub mod Algebra

@@ -1,12 +1,12 @@
 // The sum and the difference.
-use crate::decimal32;
-use crate::decimal32::is_call;
-use crate::entry::enter_operation;
 use format::Format;
 use format::Preparation;
+use format::admission::prepare;
 use format::directions::direction_of;
 use number::Answer;
 use number::Number;
+use number::entry::with_direction;
+use number::entry::with_number;
 use prepared_arithmetic::sum::add;
 use prepared_arithmetic::sum::subtract;
 ghost use mathlib.Core.Path.{_≡_};
@@ -16,10 +16,8 @@ ghost use Rattle.prepared_arithmetic.specs.Operations.{summed, subtracted};
 pub fn sum(format: Format, direction: u32, a: Number, b: Number) -> Answer
     ensures { λ r. ⌜ r ≡ summed format direction a b ⌝ }
 {
-    if is_call(format, direction, a, b) {
-        return decimal32::add(direction_of(direction), a, b);
-    }
-    match enter_operation(format, direction, a, b) {
+    let directed = with_direction(prepare(format), direction);
+    match with_number(with_number(directed, b), a) {
         Preparation::Refused(why) => Answer::Refused(why),
         Preparation::Ready(prepared) => add(prepared, direction_of(direction), a, b),
     }
@@ -29,7 +27,8 @@ pub fn sum(format: Format, direction: u32, a: Number, b: Number) -> Answer
 pub fn difference(format: Format, direction: u32, a: Number, b: Number) -> Answer
     ensures { λ r. ⌜ r ≡ subtracted format direction a b ⌝ }
 {
-    match enter_operation(format, direction, a, b) {
+    let directed = with_direction(prepare(format), direction);
+    match with_number(with_number(directed, b), a) {
         Preparation::Refused(why) => Answer::Refused(why),
         Preparation::Ready(prepared) => subtract(prepared, direction_of(direction), a, b),
     }

@@ -1,75 +1,62 @@
--- `arithmetic::product::product` meets its contract: by the operation of decimal32, or the general one.
+-- `arithmetic::product::product` meets its contract.
 use borrow.Author.Needs.{needs}
 use mathlib.Core.Path.{_≡_, sym, _∙_}
-use mathlib.Core.Bool.{true}
 use mathlib.Core.List.{[], _∷_}
 use Rattle.theory.specs.Round as theory
 use Rattle.format.specs.declared.Format.{Format}
 use Rattle.format.specs.declared.Preparation.the-variants.{Ready}
 use Rattle.number.specs.Entry.{entered}
-use Rattle.number.proofs.Entries.{ends}
-use Rattle.arithmetic.specs.Decimal32.{isCall}
+use Rattle.number.proofs.Entries.{ends, prepared-entered}
 use Rattle.prepared_arithmetic.specs.Operations.{roundedProduct, multiplied}
-use Rattle.arithmetic.proofs.DecimalFormat.{call-directed, call-members, call-answered}
 use Rattle.arithmetic.proofs.Entered.{operation, answered}
 use Rattle.arithmetic.proofs.product.product.Statement.{statement}
 use Rattle.arithmetic.proofs.product.product.Tie as tie
 
--- a call of decimal32
-call : (c : tie.Then1) → let s = c .before .before .args in isCall (s .format) (s .direction) (s .a) (s .b) ≡ true
-call c = sym (c .before .is-call .ensures) ∙ c .if1 .taken
+-- the checks
+checked : (c : tie.After-with-number2) → let s = c .before .before .before .before .args in
+    c .with-number2 .result ≡ entered (s .format) (s .direction ∷ []) (s .a ∷ s .b ∷ [])
+checked c =
+    let n = c .before in
+    let d = n .before in
+    c .with-number2 .ensures _ _ _
+    (n .with-number .ensures _ _ _ (d .with-direction .ensures _ _ (d .before .prepare .ensures ∙ prepared-entered _)))
+
+-- they were passed
+passed : (c : tie.After-prepared) → let s = c .before .before .before .before .before .before .args in
+    entered (s .format) (s .direction ∷ []) (s .a ∷ s .b ∷ []) ≡ Ready (c .prepared .given .0 .0)
+passed c = sym (checked (c .before .before)) ∙ c .prepared .given .1
 
 direction-of-requires : tie.Need-direction-of-requires
-direction-of-requires c κs = call-directed _ _ _ _ (call c)
+direction-of-requires c κs = operation _ _ _ _ (passed (c .before)) .entrance .directed
 
 multiply-requires : tie.Need-multiply-requires
-multiply-requires c κs = call-members _ _ _ _ (call (c .before))
+multiply-requires c κs = let o = operation _ _ _ _ (passed (c .before .before)) in (o .entrance .usable, o .first, o .second)
 
 returns : tie.Need-returns
 unfolding multiplied
 returns c =
-    let d = c .before in
-    let t = d .before in
-    let s = t .before .before .args in
-    call-answered _ _ _ _ (call t) (λ (f : Format) (t : theory.Direction). roundedProduct f t (s .a) (s .b)) (d .direction-of .ensures) (c .multiply .ensures)
-
--- the checks were passed
-entrance : (c : tie.After-prepared) → let s = c .before .before .before .before .before .args in
-    entered (s .format) (s .direction ∷ []) (s .a ∷ s .b ∷ []) ≡ Ready (c .prepared .given .0 .0)
-entrance c = sym (c .before .before .enter-operation .ensures) ∙ c .prepared .given .1
-
-direction-of-requires-2 : tie.Need-direction-of-requires-2
-direction-of-requires-2 c κs = operation _ _ _ _ (entrance (c .before)) .entrance .directed
-
-multiply-requires-2 : tie.Need-multiply-requires-2
-multiply-requires-2 c κs = let o = operation _ _ _ _ (entrance (c .before .before)) in (o .entrance .usable, o .first, o .second)
+    let w = c .before in
+    ends _ _ _ _ _ (sym (checked (w .before .before)) ∙ w .why .given .1)
 
 returns-2 : tie.Need-returns-2
 unfolding multiplied
 returns-2 c =
-    let w = c .before in
-    ends _ _ _ _ _ (sym (w .before .before .enter-operation .ensures) ∙ w .why .given .1)
-
-returns-3 : tie.Need-returns-3
-unfolding multiplied
-returns-3 c =
     let d = c .before in
     let p = d .before .before in
-    let s = p .before .before .before .before .before .args in
-    answered _ _ _ (entrance p) (λ (f : Format) (t : theory.Direction). roundedProduct f t (s .a) (s .b)) (d .direction-of2 .ensures) (c .multiply2 .ensures)
+    let s = p .before .before .before .before .before .before .args in
+    answered _ _ _ (passed p) (λ (f : Format) (t : theory.Direction). roundedProduct f t (s .a) (s .b)) (d .direction-of .ensures) (c .multiply .ensures)
 
 pub product-spec : {M : Type 1} → statement M
 product-spec =
     tie.close
     (tie.spec
     (λ c κs. search needs)
-    direction-of-requires
-    multiply-requires
-    returns
+    (λ c κs. search needs)
+    (λ c κs. search needs)
     (λ c κs. search needs)
     (λ c. search needs)
     (λ c. search needs)
-    direction-of-requires-2
-    multiply-requires-2
-    returns-2
-    returns-3)
+    direction-of-requires
+    multiply-requires
+    returns
+    returns-2)

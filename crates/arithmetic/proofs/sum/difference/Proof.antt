@@ -6,41 +6,53 @@ use Rattle.theory.specs.Round as theory
 use Rattle.format.specs.declared.Format.{Format}
 use Rattle.format.specs.declared.Preparation.the-variants.{Ready}
 use Rattle.number.specs.Entry.{entered}
-use Rattle.number.proofs.Entries.{ends}
+use Rattle.number.proofs.Entries.{ends, prepared-entered}
 use Rattle.prepared_arithmetic.specs.Operations.{roundedDifference, subtracted}
 use Rattle.arithmetic.proofs.Entered.{operation, answered}
 use Rattle.arithmetic.proofs.sum.difference.Statement.{statement}
 use Rattle.arithmetic.proofs.sum.difference.Tie as tie
 
--- the checks were passed
-entrance : (c : tie.After-prepared) → let s = c .before .before .before .args in
+-- the checks
+checked : (c : tie.After-with-number2) → let s = c .before .before .before .before .args in
+    c .with-number2 .result ≡ entered (s .format) (s .direction ∷ []) (s .a ∷ s .b ∷ [])
+checked c =
+    let n = c .before in
+    let d = n .before in
+    c .with-number2 .ensures _ _ _
+    (n .with-number .ensures _ _ _ (d .with-direction .ensures _ _ (d .before .prepare .ensures ∙ prepared-entered _)))
+
+-- they were passed
+passed : (c : tie.After-prepared) → let s = c .before .before .before .before .before .before .args in
     entered (s .format) (s .direction ∷ []) (s .a ∷ s .b ∷ []) ≡ Ready (c .prepared .given .0 .0)
-entrance c = sym (c .before .before .enter-operation .ensures) ∙ c .prepared .given .1
+passed c = sym (checked (c .before .before)) ∙ c .prepared .given .1
 
 direction-of-requires : tie.Need-direction-of-requires
-direction-of-requires c κs = operation _ _ _ _ (entrance (c .before)) .entrance .directed
+direction-of-requires c κs = operation _ _ _ _ (passed (c .before)) .entrance .directed
 
 subtract-requires : tie.Need-subtract-requires
-subtract-requires c κs = let o = operation _ _ _ _ (entrance (c .before .before)) in (o .entrance .usable, o .first, o .second)
+subtract-requires c κs = let o = operation _ _ _ _ (passed (c .before .before)) in (o .entrance .usable, o .first, o .second)
 
 returns : tie.Need-returns
 unfolding subtracted
 returns c =
     let w = c .before in
-    ends _ _ _ _ _ (sym (w .before .before .enter-operation .ensures) ∙ w .why .given .1)
+    ends _ _ _ _ _ (sym (checked (w .before .before)) ∙ w .why .given .1)
 
 returns-2 : tie.Need-returns-2
 unfolding subtracted
 returns-2 c =
     let d = c .before in
     let p = d .before .before in
-    let s = p .before .before .before .args in
-    answered _ _ _ (entrance p) (λ (f : Format) (t : theory.Direction). roundedDifference f t (s .a) (s .b)) (d .direction-of .ensures) (c .subtract .ensures)
+    let s = p .before .before .before .before .before .before .args in
+    answered _ _ _ (passed p) (λ (f : Format) (t : theory.Direction). roundedDifference f t (s .a) (s .b)) (d .direction-of .ensures) (c .subtract .ensures)
 
 pub difference-spec : {M : Type 1} → statement M
 difference-spec =
     tie.close
     (tie.spec
+    (λ c κs. search needs)
+    (λ c κs. search needs)
+    (λ c κs. search needs)
     (λ c κs. search needs)
     (λ c. search needs)
     (λ c. search needs)

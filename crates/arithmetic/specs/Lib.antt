@@ -1,2 +1,0 @@
--- Where the operations of decimal32 answer a call.
-pub mod Decimal32

@@ -1,2 +1,0 @@
--- The scale of decimal32.
-pub mod Scale
