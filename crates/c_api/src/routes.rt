@@ -3,18 +3,18 @@ use c_answers::NumberAnswer;
 use c_answers::number_out;
 use format::Format;
 use number::Number;
-use rump::first_place::ufp_toward_zero;
-use rump::last_place::ulp_toward_zero;
-use rump::last_place::ulp_toward_zero_unbranched;
-use rump::last_place::ulp_upward;
+use rump::routes::ufp_toward_zero;
+use rump::routes::ulp_toward_zero;
+use rump::routes::ulp_toward_zero_unbranched;
+use rump::routes::ulp_upward;
 ghost use mathlib.Core.Path.{_≡_};
-ghost use Rattle.rump.specs.Routes.{ufpRoute, ulpRoute};
+ghost use Rattle.rump.specs.Routes.{ufpTowardZero, ulpUpward, ulpTowardZero, ulpUnbranched};
 ghost use Rattle.c_answers.specs.Answers.{numberOut};
 
 // The first place by figure 1. Refuses 1, 3, 8.
 #[no_mangle]
 pub extern "C" fn zurkeb_ufp_toward_zero(format: Format, x: Number) -> NumberAnswer
-    ensures { λ r. ⌜ r ≡ numberOut (ufpRoute format x) ⌝ }
+    ensures { λ r. ⌜ r ≡ numberOut (ufpTowardZero format x) ⌝ }
 {
     number_out(ufp_toward_zero(format, x))
 }
@@ -22,7 +22,7 @@ pub extern "C" fn zurkeb_ufp_toward_zero(format: Format, x: Number) -> NumberAns
 // The last place by figure 3. Refuses 1, 3, 8.
 #[no_mangle]
 pub extern "C" fn zurkeb_ulp_upward(format: Format, x: Number) -> NumberAnswer
-    ensures { λ r. ⌜ r ≡ numberOut (ulpRoute format x) ⌝ }
+    ensures { λ r. ⌜ r ≡ numberOut (ulpUpward format x) ⌝ }
 {
     number_out(ulp_upward(format, x))
 }
@@ -30,7 +30,7 @@ pub extern "C" fn zurkeb_ulp_upward(format: Format, x: Number) -> NumberAnswer
 // The last place by figure 4. Refuses 1, 3, 8.
 #[no_mangle]
 pub extern "C" fn zurkeb_ulp_toward_zero(format: Format, x: Number) -> NumberAnswer
-    ensures { λ r. ⌜ r ≡ numberOut (ulpRoute format x) ⌝ }
+    ensures { λ r. ⌜ r ≡ numberOut (ulpTowardZero format x) ⌝ }
 {
     number_out(ulp_toward_zero(format, x))
 }
@@ -38,7 +38,7 @@ pub extern "C" fn zurkeb_ulp_toward_zero(format: Format, x: Number) -> NumberAns
 // The last place by figure 5. Refuses 1, 3, 8.
 #[no_mangle]
 pub extern "C" fn zurkeb_ulp_toward_zero_unbranched(format: Format, x: Number) -> NumberAnswer
-    ensures { λ r. ⌜ r ≡ numberOut (ulpRoute format x) ⌝ }
+    ensures { λ r. ⌜ r ≡ numberOut (ulpUnbranched format x) ⌝ }
 {
     number_out(ulp_toward_zero_unbranched(format, x))
 }

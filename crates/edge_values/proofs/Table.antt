@@ -17,15 +17,16 @@ use Rattle.number.specs.Numbers.{equalZ, normal, small, isZero, member, magnitu
 use Rattle.number.specs.Entry.{entry, after}
 use Rattle.units.specs.Places.{firstPlace, lastPlace, leastPlace}
 use Rattle.units.specs.Neighbours.{predecessorOf, successorOf}
-use Rattle.prepared_arithmetic.specs.Operations.{rounded, roundedZ, roundedQuotient, summed, divided}
-use Rattle.rump_premises.specs.Premises.{premise, firstPremise}
-use Rattle.rump.specs.Routes.{ufpRoute}
+use Rattle.prepared_arithmetic.specs.Operations.{rounded, roundedZ, roundedProduct, roundedQuotient, summed, divided}
+use Rattle.rump.specs.Premises.{premise, firstPremise}
+use Rattle.rump.specs.Figures.{both, belowOne, scaledUp, figure1}
+use Rattle.rump.specs.Routes.{route}
 use Rattle.fast_two_sum.specs.Calls.{isBinary, ordered, then, threeSteps, fastTwoSum}
 use Rattle.edge_values.specs.Rows.{Row, Result, off, rows}
 
 -- the test
 pub computed : map (λ (r : Row). r .call) rows ≡ map (λ (r : Row). r .paper) rows
-unfolding rows _and_ _or_ unless search-place place step floor-to ceil-to lower upper lowerQ upperQ location chosen takes-upper round roundZ predecessor successor ufp ulp search-zeros zeros uls exponentsAdmitted admitted isDirection direction equalZ normal small isZero member magnitude value greatest number delivered all entry after firstPlace lastPlace leastPlace predecessorOf successorOf rounded roundedZ roundedQuotient summed divided isBinary ordered then threeSteps fastTwoSum premise firstPremise ufpRoute xor
+unfolding rows _and_ _or_ unless search-place place step floor-to ceil-to lower upper lowerQ upperQ location chosen takes-upper round roundZ predecessor successor ufp ulp search-zeros zeros uls exponentsAdmitted admitted isDirection direction equalZ normal small isZero member magnitude value greatest number delivered all entry after firstPlace lastPlace leastPlace predecessorOf successorOf rounded roundedZ roundedProduct roundedQuotient summed divided isBinary ordered then threeSteps fastTwoSum premise firstPremise both belowOne scaledUp figure1 route xor
 computed = refl
 
 -- so each row holds: the call's answer is the paper's

@@ -11,7 +11,7 @@ use Rattle.number.specs.declared.Answer.the-variants as answer
 use Rattle.units.specs.Places.{firstPlace, lastPlace, leastPlace}
 use Rattle.units.specs.Neighbours.{predecessorOf, successorOf}
 use Rattle.prepared_arithmetic.specs.Operations.{summed, divided}
-use Rattle.rump.specs.Routes.{ufpRoute}
+use Rattle.rump.specs.Routes.{ufpTowardZero}
 use Rattle.fast_two_sum.specs.declared.StepsAnswer.{StepsAnswer}
 use Rattle.fast_two_sum.specs.declared.StepsAnswer.the-variants as steps
 use Rattle.fast_two_sum.specs.Triples.{distance}
@@ -92,8 +92,8 @@ rows =
     ∷ gives (divided (nines 3 1) 0 (plus 1 (pos 0)) (plus 2 (pos 0))) (plus 2 (negsuc 0))
     ∷ gives (divided (nines 3 1) 4 (plus 1 (pos 0)) (plus 2 (pos 0))) (plus 1 (negsuc 0))
     -- β = 10, p = 3, Emin = -3, Emax = 3: figure 1 gives 1 for 1. With Emin = -2 it is refused, by 8
-    ∷ gives (ufpRoute (threes (negsuc 2)) (plus 100 (negsuc 1))) (plus 100 (negsuc 1))
-    ∷ refusedBy8 (ufpRoute (threes (negsuc 1)) (plus 100 (negsuc 1)))
+    ∷ gives (ufpTowardZero (threes (negsuc 2)) (plus 100 (negsuc 1))) (plus 100 (negsuc 1))
+    ∷ refusedBy8 (ufpTowardZero (threes (negsuc 1)) (plus 100 (negsuc 1)))
     -- β = 2, p = 3, all up: 4 and 1/16 give 5, 1, -7/8, off by 1/16, which is 32 units of 2 ^ -9; with 1/2: 5, 1, -1/2, not off
     ∷ triple (fastTwoSum (nines 2 3) 3 3 3 (plus 4 (pos 0)) (plus 4 (negsuc 5))) (plus 5 (pos 0)) (plus 4 (negsuc 1)) (minus 7 (negsuc 2))
     ∷ isOff (distance (nines 2 3) (plus 4 (pos 0)) (plus 4 (negsuc 5)) (plus 5 (pos 0)) (minus 7 (negsuc 2))) 32

@@ -19,25 +19,24 @@ use Rattle.theory.proofs.FirstPlace.{scaled, below-one-is, scaled-up-is, scaled
 use Rattle.format.specs.declared.Format.{Format}
 use Rattle.format.specs.Formats.{highestPlace}
 use Rattle.format.proofs.Formats.{positional}
-use Rattle.number.specs.declared.Number.{Number}
+use Rattle.number.specs.declared.Answer.{Answer}
 use Rattle.number.specs.Exponents.{belowZero}
 use Rattle.number.specs.Numbers.{greatest}
-use Rattle.rump_premises.specs.Values.{one, Has}
-use Rattle.rump_premises.proofs.Reach.{First, one-positive, power-most, constant-most}
-use Rattle.rump.specs.Steps.{sumOf, differenceOf, productOf}
-use Rattle.rump.proofs.Steps.{Gives, gives}
+use Rattle.rump.specs.Figures.{one, plus, times, power, belowOne, scaledUp, figure1}
+use Rattle.rump.proofs.Reach.{First, one-positive, power-most, constant-most}
+use Rattle.rump.proofs.Lines.{Line, sum-line, difference-line, product-line, subrealmin-line, power-line, one-line}
 
 -- the values of its lines, in units
-abbrev pub p1 : Format → ℤ
+abbrev p1 : Format → ℤ
 p1 f = below-one (f .base) (f .digits) (one f)
 
-abbrev pub phi : Format → ℕ
+abbrev phi : Format → ℕ
 phi f = (f .base ^ (f .digits - 1) + 1) * one f
 
-abbrev pub q : Format → ℕ → ℤ
+abbrev q : Format → ℕ → ℤ
 q f n = scaled-up (f .base) (f .digits) (one f) n
 
-abbrev pub shrunk : Format → ℕ → ℤ
+abbrev shrunk : Format → ℕ → ℤ
 shrunk f n = product (f .base) (f .digits) toward-zero (one f) (p1 f) (q f n)
 
 module _ {f : Format} {n : ℕ} (k : First f n) where
@@ -58,9 +57,9 @@ module _ {f : Format} {n : ℕ} (k : First f n) where
       let within = power-most (k .admits) (f .digits + spare) (omega (arith, k .reach .low, k .reach .span)) in
       rw (one-is, below-one-is ok spare) (omega (arith, mul-le-mul-right (f .base ^ spare) digits, pow-add (f .base) (f .digits) spare, within))
 
-  pub p1-gives : {a b : Number} → Has f a (pos (one f)) → Has f b (pos 1) → Gives f a b (differenceOf f toward-zero a b) (p1 f)
-  unfolding below-one
-  p1-gives x y = gives (k .reach .not-above) x y (difference (f .base) (f .digits) toward-zero) refl p1-most
+  p1-line : Line f (belowOne f) (p1 f)
+  unfolding belowOne below-one
+  p1-line = difference-line (k .admits) toward-zero (one-line (k .admits) (k .reach)) (subrealmin-line (k .admits)) refl p1-most
 
   -- ---- line 3, φ = β ^ (p - 1) + 1
   phi-most : phi f ≤ greatest f
@@ -75,8 +74,9 @@ module _ {f : Format} {n : ℕ} (k : First f n) where
       sum-toward-zero ok (f .base ^ (f .digits - 1) * one f) (one f)
       ∙ ap pos (ap (lower (f .base) (f .digits)) (omega arith) ∙ lower-exact ok (phi f) (wide-phi ok (belowZero (f .emin))))
 
-  pub phi-gives : {a b : Number} → Has f a (pos (f .base ^ (f .digits - 1) * one f)) → Has f b (pos (one f)) → Gives f a b (sumOf f toward-zero a b) (pos (phi f))
-  phi-gives x y = gives (k .reach .not-above) x y (sum (f .base) (f .digits) toward-zero) phi-is phi-most
+  phi-line : Line f (plus f toward-zero (power f (f .digits - 1)) (power f 0)) (pos (phi f))
+  phi-line =
+      sum-line (k .admits) toward-zero (power-line (k .admits) (k .reach) (f .digits - 1) (omega arith)) (one-line (k .admits) (k .reach)) phi-is phi-most
 
   -- ---- line 4, q = φ f
   ufp-most : ufp (f .base) n ≤ f .base ^ (highestPlace f - f .digits)
@@ -103,22 +103,23 @@ module _ {f : Format} {n : ℕ} (k : First f n) where
       sym (pow-add (f .base) (f .digits) (highestPlace f - f .digits)) ∙ ap (λ (j : ℕ). f .base ^ j) (omega (arith, k .reach .low, k .reach .span)) in
       omega (arith, scaled-up-most ok n, mul-le-mul-left (f .base ^ f .digits) ufp-most, power-most (k .admits) (highestPlace f) (omega arith))
 
-  pub q-gives : {a b : Number} → Has f a (pos (phi f)) → Has f b (pos n) → Gives f a b (productOf f toward-zero a b) (q f n)
-  unfolding scaled-up
-  q-gives x y =
-      gives (k .reach .not-above) x y (product (f .base) (f .digits) toward-zero (one f)) refl (rw (scaled-up-is ok (one f) n (one-positive (k .admits))) scaled-most)
-
-  -- ---- line 5, p1 q and S = q - p1 q
-  pub shrunk-gives : {a b : Number} → Has f a (p1 f) → Has f b (q f n) → Gives f a b (productOf f toward-zero a b) (shrunk f n)
-  shrunk-gives x y =
-      gives (k .reach .not-above) x y (product (f .base) (f .digits) toward-zero (one f)) refl (rw (one-is, shrunk-is ok spare n) (omega (arith, scaled-most)))
-
   first-is : difference (f .base) (f .digits) toward-zero (q f n) (shrunk f n) ≡ pos (ufp (f .base) n)
   unfolding ufp-toward-zero
   first-is = rw one-is (ufp-toward-zero-is ok spare n)
 
-  pub first-gives : {a b : Number} → Has f a (q f n) → Has f b (shrunk f n) → Gives f a b (differenceOf f toward-zero a b) (pos (ufp (f .base) n))
-  first-gives x y = gives (k .reach .not-above) x y (difference (f .base) (f .digits) toward-zero) first-is (omega (arith, ufp-most, within))
-    where
-      within : f .base ^ (highestPlace f - f .digits) ≤ greatest f
-      within = power-most (k .admits) (highestPlace f - f .digits) (omega arith)
+  module _ {x : Answer} (h : Line f x (pos n)) where
+    q-line : Line f (scaledUp f x) (q f n)
+    unfolding scaledUp scaled-up
+    q-line =
+        product-line (k .admits) toward-zero phi-line h (k .reach .not-above) refl (rw (scaled-up-is ok (one f) n (one-positive (k .admits))) scaled-most)
+
+    -- ---- line 5, p1 q and S = q - p1 q
+    shrunk-line : Line f (times f toward-zero (belowOne f) (scaledUp f x)) (shrunk f n)
+    shrunk-line =
+        product-line (k .admits) toward-zero p1-line q-line (k .reach .not-above) refl (rw (one-is, shrunk-is ok spare n) (omega (arith, scaled-most)))
+
+    pub figure1-line : Line f (figure1 f x) (pos (ufp (f .base) n))
+    unfolding figure1
+    figure1-line =
+        let within = power-most (k .admits) (highestPlace f - f .digits) (omega arith) in
+        difference-line (k .admits) toward-zero q-line shrunk-line first-is (omega (arith, ufp-most, within))

@@ -1,8 +1,8 @@
--- Laws of Rump's routes.
+-- Laws of the premises of Rump's routes, of the lines of the figures, and of what the routes answer.
+pub mod Reach
+pub mod Lines
 pub mod Entered
-pub mod Steps
 pub mod FirstFigure
 pub mod LastFigures
--- laws for a user, and worked values
 pub mod RouteLaws
-mod RouteValues
+pub mod RouteValues

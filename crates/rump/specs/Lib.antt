@@ -1,3 +1,5 @@
--- What Rump's routes answer, and what their steps give.
-pub mod Steps
+-- The premises of Rump's routes, the figures, and what the routes answer.
+pub mod Premises
+pub mod Figures
 pub mod Routes
+pub mod Steps

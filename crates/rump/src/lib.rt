@@ -1,4 +1,14 @@
 // Rump's routes: the first place and the last place of a number by the engine's own operations alone.
-pub mod first_place;
-pub mod last_place;
+mod constants;
+mod figures;
 mod operations;
+mod premises;
+pub mod routes;
+
+// Figures 1, 3, 4 and 5 of source document 000.
+pub enum Figure {
+    First,
+    Third,
+    Fourth,
+    Fifth,
+}

@@ -1,0 +1,81 @@
+-- `rump::premises::first_premise` meets its contract.
+use borrow.Author.Needs.{needs}
+use Prim.Native.Nat.{ℕ, _+_, _-_, _^_}
+use mathlib.Core.Path.{_≡_, sym, ap, ap₂, _∙_}
+use mathlib.Core.Bool.{true, false}
+use native.Mathlib.Omega.{arith}
+use lib.Dec.{ltb}
+use lib.IntN.{pos}
+use Rattle.theory.proofs.Tests.{never, refuted, denied, granted}
+use Rattle.theory.proofs.Wide.{wide-pow}
+use Rattle.format.specs.Formats.{highestPlace}
+use Rattle.format.proofs.Formats.{positional}
+use Rattle.number.specs.Numbers.{magnitude, number}
+use Rattle.number.proofs.Membership.{known}
+use Rattle.number.proofs.Values.{highest-most}
+use Rattle.rump.specs.Premises.{premise}
+use Rattle.rump.proofs.Reach.{reach, power-most, first-format, first-by}
+use Rattle.rump.proofs.Lines.{Has, number-has, has-size}
+use Rattle.rump.proofs.premises.first_premise.Statement.{statement}
+use Rattle.rump.proofs.premises.first_premise.Tie as tie
+
+returns : tie.Need-returns
+returns c =
+    let e = c .before in
+    let s = e .before .args in
+    refuted (λ h. never (sym (first-format (s .prepared .format) (s .x) h) ∙ denied (e .exponents-suffice .ensures) (c .if1 .taken)))
+
+abbrev start : tie.After-struct-known → tie.Start
+start c = c .before .before .before
+
+suffice : (c : tie.After-struct-known) → premise (start c .args .prepared .format) ≡ true
+suffice c = let e = c .before in granted (e .before .exponents-suffice .ensures) (e .if1 .left)
+
+add-power-number : tie.Need-add-power-number
+add-power-number c =
+    let k = known (start c .pre .0) in
+    omega (arith, k .highest, highest-most (k .admits))
+
+sub-power-number : tie.Need-sub-power-number
+sub-power-number c =
+    let k = known (start c .pre .0) in
+    let r = reach (k .admits) (suffice c) in
+    omega (arith, k .highest, k .digits, r .low, r .span)
+
+power-number-requires : tie.Need-power-number-requires
+power-number-requires c κs =
+    let k = known (start c .pre .0) in
+    (start c .pre .0, omega (arith, k .digits, k .admits .digits-low))
+
+-- the bound is a number of the format
+bound : (c : tie.After-power-number) → let f = start (c .before) .args .prepared .format in Has f (c .power-number .result) (pos (f .base ^ (highestPlace f + 1 - f .digits)))
+bound c =
+    let s = start (c .before) in
+    let f = s .args .prepared .format in
+    let k = known (s .pre .0) in
+    let same : s .args .prepared .highest + 1 - s .args .prepared .scale .digits ≡ highestPlace f + 1 - f .digits =
+    ap₂ (λ (h p : ℕ). h + 1 - p) (k .highest) (k .digits) in
+    number-has (k .admits) (wide-pow (positional (k .admits)) _) (power-most (k .admits) _ (omega (arith, k .admits .digits-low)))
+    (c .power-number .ensures ∙ ap (λ (i : ℕ). number f false (f .base ^ i)) same)
+
+is-smaller-requires : tie.Need-is-smaller-requires
+is-smaller-requires c κs = let s = start (c .before) in (s .pre .0 .format, s .pre .1, bound c .number)
+
+returns-2 : tie.Need-returns-2
+returns-2 c =
+    let b = c .before in
+    let s = start (b .before) in
+    let f = s .args .prepared .format in
+    c .is-smaller .ensures ∙ ap (ltb (magnitude f (s .args .x))) (has-size (bound b)) ∙ first-by f (s .args .x) (suffice (b .before))
+
+pub first-premise-spec : {M : Type 1} → statement M
+first-premise-spec =
+    tie.close
+    (tie.spec
+    (λ c κs. search needs)
+    returns
+    add-power-number
+    sub-power-number
+    power-number-requires
+    is-smaller-requires
+    returns-2)

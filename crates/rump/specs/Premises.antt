@@ -1,0 +1,32 @@
+-- The premises of Rump's routes, as document 01 decides them.
+use Prim.Native.Nat.{_^_, _+_, _-_}
+use mathlib.Core.Bool.{Bool, not}
+use lib.Dec.{ltb, eqb}
+use lib.IntN.{pos, negℤ}
+use lib.Signed.{leZ}
+use Rattle.theory.specs.Tests.{_and_}
+use Rattle.format.specs.declared.Format.{Format}
+use Rattle.format.specs.Formats.{highestPlace}
+use Rattle.number.specs.declared.Number.{Number}
+use Rattle.number.specs.Numbers.{magnitude, greatest}
+use Rattle.rump.specs.declared.Figure.{Figure}
+use Rattle.rump.specs.declared.Figure.the-variants.{First, Third, Fourth, Fifth}
+
+-- for all routes: Emin ≤ -p and p ≤ Emax
+unfoldable pub premise : Format → Bool
+premise f = leZ (f .emin) (negℤ (pos (f .digits))) and leZ (pos (f .digits)) (f .emax)
+
+-- figure 1: |x| < β ^ (Emax - p + 1), which is β ^ (Emax - Emin + 1 - p) units
+unfoldable pub firstPremise : Format → Number → Bool
+firstPremise f x = premise f and ltb (magnitude f x) (f .base ^ (highestPlace f + 1 - f .digits))
+
+-- figures 3, 4 and 5: x is not zero, and |x| is not the greatest number
+unfoldable pub lastPremise : Format → Number → Bool
+lastPremise f x = premise f and not (eqb (magnitude f x) 0) and not (eqb (magnitude f x) (greatest f))
+
+-- of each figure
+abbrev pub premiseOf : Figure → Format → Number → Bool
+premiseOf First f x = firstPremise f x
+premiseOf Third f x = lastPremise f x
+premiseOf Fourth f x = lastPremise f x
+premiseOf Fifth f x = lastPremise f x

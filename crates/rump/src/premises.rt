@@ -1,0 +1,84 @@
+// The premises of Rump's routes.
+use crate::Figure;
+use format::Format;
+use format::Prepared;
+use number::Number;
+use number::Ordered;
+use number::delivery::number_at;
+use number::exponents::above_zero;
+use number::exponents::below_zero;
+use number::order::compare_magnitudes;
+use units::powers_of_base::power_number;
+ghost use mathlib.Core.Path.{_≡_};
+ghost use mathlib.Core.Bool.{true};
+ghost use lib.Dec.{ltb};
+ghost use Rattle.format.specs.Formats.{admitted};
+ghost use Rattle.number.specs.Entry.{Usable};
+ghost use Rattle.number.specs.Numbers.{member, magnitude};
+ghost use Rattle.rump.specs.Premises.{premise, firstPremise, lastPremise, premiseOf};
+
+// Emin ≤ -p and p ≤ Emax.
+fn exponents_suffice(prepared: Prepared) -> bool
+    requires { ⌜ Usable prepared ⌝ }
+    ensures { λ r. ⌜ r ≡ premise (prepared .format) ⌝ }
+{
+    let digits = prepared.scale.digits;
+    if below_zero(prepared.format.emin) < digits {
+        return false;
+    }
+    digits <= above_zero(prepared.format.emax)
+}
+
+// Is |x| less than |bound|?
+fn is_smaller(format: Format, x: Number, bound: Number) -> bool
+    requires { ⌜ (admitted format ≡ true) × (member format x ≡ true) × (member format bound ≡ true) ⌝ }
+    ensures { λ r. ⌜ r ≡ ltb (magnitude format x) (magnitude format bound) ⌝ }
+{
+    match compare_magnitudes(format, x, bound) {
+        Ordered::Less => true,
+        Ordered::Equal => false,
+        Ordered::Greater => false,
+        Ordered::Refused(_) => false,
+    }
+}
+
+// Figure 1 takes x below base^(Emax - p + 1).
+fn first_premise(prepared: Prepared, x: Number) -> bool
+    requires { ⌜ Usable prepared × (member (prepared .format) x ≡ true) ⌝ }
+    ensures { λ r. ⌜ r ≡ firstPremise (prepared .format) x ⌝ }
+{
+    if !exponents_suffice(prepared) {
+        return false;
+    }
+    let digits = prepared.scale.digits;
+    let bound = power_number(prepared, prepared.highest + 1 - digits);
+    is_smaller(prepared.format, x, bound)
+}
+
+// Figures 3, 4 and 5 take x that is neither zero nor the greatest number.
+fn last_premise(prepared: Prepared, x: Number) -> bool
+    requires { ⌜ Usable prepared × (member (prepared .format) x ≡ true) ⌝ }
+    ensures { λ r. ⌜ r ≡ lastPremise (prepared .format) x ⌝ }
+{
+    if !exponents_suffice(prepared) {
+        return false;
+    }
+    let top = prepared.scale.top;
+    if x.significand == 0 {
+        return false;
+    }
+    let greatest = number_at(prepared, false, top - 1, prepared.highest);
+    is_smaller(prepared.format, x, greatest)
+}
+
+pub fn premise_holds(figure: Figure, prepared: Prepared, x: Number) -> bool
+    requires { ⌜ Usable prepared × (member (prepared .format) x ≡ true) ⌝ }
+    ensures { λ r. ⌜ r ≡ premiseOf figure (prepared .format) x ⌝ }
+{
+    match figure {
+        Figure::First => first_premise(prepared, x),
+        Figure::Third => last_premise(prepared, x),
+        Figure::Fourth => last_premise(prepared, x),
+        Figure::Fifth => last_premise(prepared, x),
+    }
+}
