@@ -1,2 +1,3 @@
 -- binary32 patterns, and what the calls of this crate answer.
 pub mod Patterns
+pub mod Places

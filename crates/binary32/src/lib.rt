@@ -2,6 +2,7 @@
 pub mod finite;
 pub mod order;
 pub mod patterns;
+pub mod places;
 pub mod prepared;
 
 use format::Refusal;

@@ -1,4 +1,5 @@
--- Laws of lines fed byte by byte, of lines of eight digits, and of input in blocks.
+-- Laws of digits and of lines.
+pub mod DigitLaws
+pub mod Stores
 pub mod LineLaws
-pub mod PatternLines
 pub mod BlockLaws

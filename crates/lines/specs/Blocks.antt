@@ -1,27 +1,22 @@
 -- Input as lines, and input that comes in blocks.
-use Prim.Native.Nat.{ℕ, _+_, _≤_, _<_}
-use mathlib.Core.Path.{_≡_}
-use mathlib.Core.Bool.{cond, true}
+use Prim.Native.Nat.{ℕ}
+use mathlib.Core.Bool.{cond}
 use mathlib.Core.List.{List, [], _∷_, _++_}
-use lib.Dec.{eqb, ltb}
-use lib.ListN.{length, getD}
-use lib.Seq.{sets}
-use Rattle.lanes.specs.Lanes.{fromDigits}
-use Rattle.line_reading.specs.declared.Line.{Line}
-use Rattle.line_reading.specs.Reading.{isDigit, digitOf, fresh, pushed}
-use Rattle.line_printing.specs.Printing.{printed, textOf, lineFeed}
-use Rattle.lines.specs.declared.Block.{Block}
+use lib.Dec.{eqb}
+use Rattle.lines.specs.declared.reading.Line.{Line}
+use Rattle.lines.specs.Reading.{fresh, pushed}
+use Rattle.lines.specs.Printing.{printed, textOf, lineFeed}
 
 -- ---- the whole input
--- a byte that is no line feed stands before the first line, or is a line of its own
-abbrev pub withFirst : ℕ → List (List ℕ) → List (List ℕ)
-withFirst b [] = (b ∷ []) ∷ []
-withFirst b (l ∷ ls) = (b ∷ l) ∷ ls
+-- the last line, where something follows the last line feed
+abbrev pub lastLine : List ℕ → List (List ℕ)
+lastLine [] = []
+lastLine (b ∷ bs) = (b ∷ bs) ∷ []
 
--- a line ends at a line feed or at the end of input; where nothing follows the last line feed there is no further line
-unfoldable pub linesOf : List ℕ → List (List ℕ)
-linesOf [] = []
-linesOf (b ∷ bs) = cond (eqb b 10) ([] ∷ linesOf bs) (withFirst b (linesOf bs))
+-- the lines of an input, some bytes of the first of them seen before it: a line ends at a line feed or at the end of input
+unfoldable pub linesFrom : (seen input : List ℕ) → List (List ℕ)
+linesFrom seen [] = lastLine seen
+linesFrom seen (b ∷ bs) = cond (eqb b 10) (seen ∷ linesFrom [] bs) (linesFrom (seen ++ b ∷ []) bs)
 
 unfoldable pub printedLines : List (List ℕ) → List ℕ
 printedLines [] = []
@@ -29,7 +24,7 @@ printedLines (l ∷ ls) = printed l ++ lineFeed ++ printedLines ls
 
 -- what the program prints for an input
 abbrev pub output : List ℕ → List ℕ
-output input = printedLines (linesOf input)
+output input = printedLines (linesFrom [] input)
 
 -- ---- a block of the input, the first of its lines begun before it
 -- the bytes printed for the lines that end in it
@@ -46,26 +41,7 @@ begun l (b ∷ bs) = cond (eqb b 10) (begun fresh bs) (begun (pushed l b) bs)
 unfoldable pub endText : Line → List ℕ
 endText l = cond (eqb (l .count) 0) [] (textOf l ++ lineFeed)
 
--- ---- a line of eight digits that lies whole in a block
-pub record PatternAt (input : List ℕ) (i : ℕ) : Type 0 where
-  pub within : i + 9 ≤ length input
-  pub digits : (k : ℕ) → k < 8 → isDigit (getD input (i + k) 0) ≡ true
-  pub feed : getD input (i + 8) 0 ≡ 10
-
--- no byte of it was read
-pub record PatternNext (l : Line) (input : List ℕ) (i : ℕ) : Type 0 where
-  pub line : l ≡ fresh
-  pub stands : PatternAt input i
-
-unfoldable pub patternAt : (input : List ℕ) (i : ℕ) → ℕ
-patternAt input i = fromDigits (λ k. digitOf (getD input (i + k) 0))
-
--- ---- what the functions leave
--- a slice too short for the longest line, of 45 bytes, stays as it is
-unfoldable pub answerLine : (line out : List ℕ) → ℕ × List ℕ
-answerLine line out = cond (ltb (length out) 45) (0, out) (length (printed line ++ lineFeed), sets out 0 (printed line ++ lineFeed))
-
-pub record Answered (l : Line) (input before : List ℕ) (r : Block) (after : List ℕ) : Type 0 where
-  pub line : r .line ≡ begun l input
-  pub length : r .printed ≡ length (ended l input)
-  pub holds : after ≡ sets before 0 (ended l input)
+-- the bytes printed while blocks come, and at the end of input
+unfoldable pub printedBlocks : Line → List (List ℕ) → List ℕ
+printedBlocks l [] = endText l
+printedBlocks l (block ∷ blocks) = ended l block ++ printedBlocks (begun l block) blocks

@@ -1,2 +1,5 @@
--- Input as lines, and input in blocks.
+-- What the program for places prints for an input.
+pub mod Digits
+pub mod Reading
+pub mod Printing
 pub mod Blocks

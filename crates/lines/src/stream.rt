@@ -1,9 +1,9 @@
 // Standard input to standard output: each line of the input is answered by a line.
 use crate::blocks::answer_block;
 use crate::blocks::answer_end;
+use crate::reading::new_line;
 use libc::STDIN_FILENO;
 use libc::STDOUT_FILENO;
-use line_reading::new_line;
 
 // Reads block by block until the input ends, and stops where nothing can be written any more. A proved loop has to end, so this
 // one counts its turns down from a number that no run uses up.

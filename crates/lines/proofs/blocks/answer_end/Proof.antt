@@ -5,9 +5,9 @@ use mathlib.Core.Bool.{Bool, cond}
 use mathlib.Core.List.{[], _++_}
 use native.Mathlib.Omega.{arith}
 use borrow.Author.Tests.{eq-eqb, ne-eqb}
-use Rattle.texts.proofs.Stores.{put-as}
-use Rattle.line_printing.specs.Printing.{textOf, lineFeed}
+use Rattle.lines.specs.Printing.{textOf, lineFeed}
 use Rattle.lines.specs.Blocks.{endText}
+use Rattle.lines.proofs.Stores.{put-as}
 use Rattle.lines.proofs.blocks.answer_end.Statement.{statement}
 use Rattle.lines.proofs.blocks.answer_end.Tie as tie
 
@@ -15,7 +15,7 @@ returns : tie.Need-returns
 unfolding endText
 returns c =
     let l = c .before .before .before .args .line in
-    put-as (ap (λ (t : Bool). cond t [] (textOf l ++ lineFeed)) (sym (eq-eqb _ _ (c .if1 .taken)))) (record { ends = omega arith; holds = refl })
+    put-as (ap (λ (t : Bool). cond t [] (textOf l ++ lineFeed)) (sym (eq-eqb _ _ (c .if1 .taken)))) (record { ends = omega arith; fits = omega arith; holds = refl })
 
 returns-2 : tie.Need-returns-2
 unfolding endText

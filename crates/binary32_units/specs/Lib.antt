@@ -1,2 +1,0 @@
--- The places and the neighbours of a number, as patterns.
-pub mod Places

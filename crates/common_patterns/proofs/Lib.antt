@@ -1,2 +1,0 @@
--- Laws of the line for a common pattern.
-pub mod PatternText

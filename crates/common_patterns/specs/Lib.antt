@@ -1,2 +1,0 @@
--- Common patterns.
-pub mod Common

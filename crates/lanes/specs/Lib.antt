@@ -1,3 +1,0 @@
--- Hexadecimal digits as text, and eight bytes in one word.
-pub mod Digits
-pub mod Lanes

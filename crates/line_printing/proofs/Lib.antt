@@ -1,2 +1,0 @@
--- Laws of the longest texts.
-pub mod Lengths

@@ -1,2 +1,0 @@
--- The line that is printed for a line.
-pub mod Printing

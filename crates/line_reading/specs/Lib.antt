@@ -1,2 +1,0 @@
--- What a line is that is read.
-pub mod Reading

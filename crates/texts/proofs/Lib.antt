@@ -1,2 +1,0 @@
--- Laws of texts stored one after the other.
-pub mod Stores

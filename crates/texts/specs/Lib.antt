@@ -1,2 +1,0 @@
--- A text stored in a list.
-pub mod Texts
