@@ -1,5 +1,6 @@
 #include "lines.h"
 
+#include <inttypes.h>
 #include <stdio.h>
 
 #include "timing.h"
@@ -69,6 +70,27 @@ static void time_reach(uint32_t pattern) {
     printf("| lines_within, %.0f found | %.1f | %.1f |\n", found, t[0].best, t[0].median);
 }
 
+/* A query for each line. */
+static uint32_t row[LINES];
+
+static uint64_t row_pass(const void *what) {
+    const list *l = what;
+    zurkeb_row_answer r = zurkeb_nearest_lines(l->offsets, l->length, row, LINES, out, LINES);
+    return (uint64_t)r.refusal << 32 ^ r.looked;
+}
+
+static void time_row(void) {
+    const list full = {rising, LINES};
+    for (int i = 0; i < LINES; i++)
+        row[i] = rising[i] + random_word() % 2 * (random_word() % 512);
+    for (int i = 1; i < LINES; i++)
+        row[i] = row[i] < row[i - 1] ? row[i - 1] : row[i];
+    const work works[] = {{row_pass, &full}};
+    timed t[1];
+    time_works(works, t, 1, 1);
+    printf("| nearest_lines, 4,096 queries, %" PRIu64 " lines looked at | %.1f | %.1f |\n", row_pass(&full), t[0].best, t[0].median);
+}
+
 void time_lines(void) {
     draw_lines();
     const list full = {rising, LINES}, two = {rising, 2}, refused = {repeating, LINES};
@@ -83,5 +105,6 @@ void time_lines(void) {
     time_reach(0x3a000000);
     time_reach(0x3d000000);
     time_reach(0x7f000000);
+    time_row();
     printf("\nthe checks, a line: %.2f ns\n", t[2].best / LINES);
 }

@@ -30,6 +30,7 @@ enum zurkeb_refusal {
     ZURKEB_LIST_DESCENDS = 13,
     ZURKEB_OUT_TOO_SHORT = 14,
     ZURKEB_LIST_REPEATS = 15,
+    ZURKEB_QUERIES_DESCEND = 16,
     ZURKEB_STRETCH_OUTSIDE = 17,
     ZURKEB_STRIP_COUNT = 18
 };
@@ -102,6 +103,13 @@ typedef struct zurkeb_reach_answer {
     uint32_t index;   /* of the first bad pattern in the list, beside refusal 9 */
 } zurkeb_reach_answer;
 
+typedef struct zurkeb_row_answer {
+    uint32_t refusal;
+    uint32_t looked;  /* lines looked at after the checks */
+    uint32_t indexed; /* 1 where the refusal has an index */
+    uint32_t index;   /* of the first bad pattern in the list or in the queries, beside refusal 9 */
+} zurkeb_row_answer;
+
 typedef struct zurkeb_stretch_answer {
     uint32_t refusal;
     uint32_t log;     /* 1 the first, 2 the second */
@@ -131,6 +139,7 @@ ZURKEB_SIZE(zurkeb_check_answer, 8);
 ZURKEB_SIZE(zurkeb_slices_answer, 16);
 ZURKEB_SIZE(zurkeb_position_answer, 16);
 ZURKEB_SIZE(zurkeb_reach_answer, 16);
+ZURKEB_SIZE(zurkeb_row_answer, 16);
 ZURKEB_SIZE(zurkeb_stretch_answer, 24);
 ZURKEB_SIZE(zurkeb_boundary_answer, 16);
 #undef ZURKEB_SIZE
@@ -210,6 +219,12 @@ zurkeb_position_answer zurkeb_nearest_line(const uint32_t *offsets, size_t lengt
  * past the last one found are unchanged, and a refused call leaves out as it was. out must not overlap offsets. */
 zurkeb_reach_answer zurkeb_lines_within(const uint32_t *offsets, size_t length, uint32_t query, uint32_t distance, uint32_t *out,
                                         size_t out_length);
+/* zurkeb_nearest_line for each of a row of queries, which ascend by value, equal ones allowed: the positions in out, and how many lines
+ * were looked at, at most the saved lines and twice the queries. After each query the search goes on from the line just found. Refuses
+ * 11 (unequal query and answer lengths, or more than 4,096 queries), then the list by 12, 9 (with its index), 13, 15, then the queries
+ * by 9 (with its index), 16 where they descend. A refused call leaves out as it was. out must not overlap offsets or queries. */
+zurkeb_row_answer zurkeb_nearest_lines(const uint32_t *offsets, size_t length, const uint32_t *queries, size_t query_length,
+                                       uint32_t *out, size_t out_length);
 
 /* The strips of a boundary, 1 to 4,096 binary32 patterns, summed from the first on, each step a three-step sum with the larger
  * magnitude first. Answers the last x (a lone strip as it is) and writes each y into rests, which is one entry shorter. Refuses 18,

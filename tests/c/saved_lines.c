@@ -119,6 +119,33 @@ static answer reached(const uint32_t *list, size_t length, uint32_t query, uint3
     return r;
 }
 
+/* A row: 11, the list, 9 and 16 of the queries; then each query's line, and the lines looked at: the line it starts from, then each
+ * next line up to and including the first that is not closer, or to the end. */
+static answer row(const uint32_t *list, size_t length, const uint32_t *queries, size_t count, size_t room, uint32_t *positions) {
+    if (count != room || count > MOST)
+        return (answer){11, 0, 0, 0};
+    answer r = checked(list, length, true);
+    if (r.refusal != 0)
+        return r;
+    for (size_t i = 0; i < count; i++)
+        if (!finite(queries[i]))
+            return (answer){9, 0, 1, (uint32_t)i};
+    for (size_t i = 0; i + 1 < count; i++)
+        if (order(value(queries[i]), value(queries[i + 1])) > 0)
+            return (answer){16, 0, 0, 0};
+    size_t at = 0;
+    for (size_t i = 0; i < count; i++) {
+        bool closer = true;
+        r.number++;
+        for (size_t k = at + 1; k < length && closer; k++) {
+            closer = order(distance(list[k], queries[i]), distance(list[k - 1], queries[i])) < 0;
+            r.number++;
+        }
+        positions[i] = (uint32_t)(at = nearest(list, length, queries[i]).number);
+    }
+    return r;
+}
+
 /* ---- comparisons */
 static void compare_nearest(const uint32_t *list, size_t length, uint32_t query) {
     answer wanted = nearest(list, length, query);
@@ -166,6 +193,23 @@ static void compare_within(const uint32_t *list, size_t length, uint32_t query, 
     same("lines_within index", ours.index, wanted.index);
     compare_written(list, length, query, found, wanted.number);
     same("lines_within leaves the rest", memcmp(out + wanted.number, before + wanted.number, (MOST - wanted.number) * sizeof *out), 0);
+}
+
+static void compare_row(const uint32_t *list, size_t length, const uint32_t *queries, size_t count, size_t room) {
+    static uint32_t positions[MOST + 1];
+    answer wanted = row(list, length, queries, count, room, positions);
+    for (size_t i = 0; i < MOST; i++)
+        out[i] = before[i] = random32();
+    zurkeb_row_answer ours = zurkeb_nearest_lines(list, length, queries, count, out, room);
+    same("nearest_lines refusal", ours.refusal, wanted.refusal);
+    same("nearest_lines looked", ours.looked, wanted.number);
+    same("nearest_lines indexed", ours.indexed, wanted.indexed);
+    same("nearest_lines index", ours.index, wanted.index);
+    if (wanted.refusal == 0)
+        same("nearest_lines at most", ours.looked <= length + 2 * count, 1);
+    size_t written = wanted.refusal == 0 ? count : 0;
+    same("nearest_lines positions", memcmp(out, positions, written * sizeof *out), 0);
+    same("nearest_lines leaves the rest", memcmp(out + written, before + written, (MOST - written) * sizeof *out), 0);
 }
 
 /* ---- patterns and lists */
@@ -262,6 +306,21 @@ static void compare_all(size_t length, uint32_t query) {
     compare_within(list, length, query, random32() & 0x80000000, room);
 }
 
+static uint32_t queries[MOST + 1];
+
+/* A row of queries that ascend, now and then spoiled, and now and then of another length than out. */
+static void compare_rows(size_t length) {
+    size_t count = random32() % 12;
+    uint32_t one_query = 0;
+    for (size_t i = 0; i < count; i++)
+        queries[i] = some_query(list, length);
+    qsort(queries, count, sizeof *queries, by_value);
+    size_t room = random32() % 16 == 0 ? count + 1 : count;
+    compare_row(list, length, queries, count, room);
+    spoil(queries, count, &one_query);
+    compare_row(list, length, queries, count, room);
+}
+
 /* The lines at -1 and 2^25 around 2^24: the rounded differences are equal, the exact ones are not. */
 static void compare_rounded(void) {
     const uint32_t around[] = {0xbf800000, 0x4c000000};
@@ -307,18 +366,41 @@ static void compare_edges(void) {
     same("9 of the distance before 14", zurkeb_lines_within(lines, 4, 0x40000000, 0x7f800000, out, 0).refusal, 9);
 }
 
+/* The order of a row's refusals, and its count. */
+static void compare_row_orders(void) {
+    const uint32_t bad = 0x7f800000, one = 0x3f800000, two = 0x40000000, three = 0x40400000, four = 0x40800000;
+    const uint32_t lines[] = {one, two, four}, asked[] = {one, three, three, four}, spoiled[] = {two, one, bad, two}, falling[] = {two, one};
+    compare_row(lines, 3, asked, 4, 4);
+    same("lines looked at", zurkeb_nearest_lines(lines, 3, asked, 4, out, 4).looked, 9);
+    same("11 before 12", zurkeb_nearest_lines(lines, 0, asked, 4, out, 3).refusal, 11);
+    same("12 before 9", zurkeb_nearest_lines(lines, 0, spoiled, 4, out, 4).refusal, 12);
+    same("13 of the list before 9 of the queries", zurkeb_nearest_lines(falling, 2, spoiled, 4, out, 4).refusal, 13);
+    same("9 before 16", zurkeb_nearest_lines(lines, 3, spoiled, 4, out, 4).refusal, 9);
+    same("with its index", zurkeb_nearest_lines(lines, 3, spoiled, 4, out, 4).index, 2);
+    same("16", zurkeb_nearest_lines(lines, 3, falling, 2, out, 2).refusal, 16);
+    same("no query, and a list that is checked", zurkeb_nearest_lines(falling, 2, asked, 0, out, 0).refusal, 13);
+    same("no query", zurkeb_nearest_lines(lines, 3, asked, 0, out, 0).looked, 0);
+    for (size_t i = 0; i < MOST + 1; i++)
+        queries[i] = two;
+    same("11 for 4,097 queries", zurkeb_nearest_lines(lines, 3, queries, MOST + 1, list, MOST + 1).refusal, 11);
+    same("4,096 equal queries", zurkeb_nearest_lines(lines, 3, queries, MOST, out, MOST).refusal, 0);
+}
+
 int main(int count, char **arguments) {
     uint64_t rounds = rounds_of(count, arguments, 20000);
     compare_rounded();
     compare_orders();
     compare_edges();
+    compare_row_orders();
     for (uint64_t round = 0; round < rounds; round++) {
         size_t length = round % 500 == 499 ? MOST - random32() % 3 : random32() % 24;
         length = fill(list, length);
         uint32_t query = some_query(list, length);
         compare_all(length, query);
+        compare_rows(length);
         spoil(list, length, &query);
         compare_all(length, query);
+        compare_rows(length);
     }
     return no_difference();
 }

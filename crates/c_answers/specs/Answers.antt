@@ -31,6 +31,7 @@ use Rattle.c_answers.specs.declared.CheckAnswer.{CheckAnswer}
 use Rattle.c_answers.specs.declared.SlicesAnswer.{SlicesAnswer}
 use Rattle.c_answers.specs.declared.PositionAnswer.{PositionAnswer}
 use Rattle.c_answers.specs.declared.ReachAnswer.{ReachAnswer}
+use Rattle.c_answers.specs.declared.RowAnswer.{RowAnswer}
 use Rattle.c_answers.specs.declared.StretchAnswer.{StretchAnswer}
 use Rattle.c_answers.specs.declared.BoundarySumAnswer.{BoundarySumAnswer}
 
@@ -88,6 +89,12 @@ abbrev pub reachOut : Given ℕ → ReachAnswer
 reachOut (gives n) = record { refusal = 0; found = n; indexed = 0; index = 0 }
 reachOut (refused number) = record { refusal = number; found = 0; indexed = 0; index = 0 }
 reachOut (refusedAt number index) = record { refusal = number; found = 0; indexed = 1; index = index }
+
+-- how many lines were looked at, and an index where the refusal has one
+abbrev pub rowOut : Given ℕ → RowAnswer
+rowOut (gives n) = record { refusal = 0; looked = n; indexed = 0; index = 0 }
+rowOut (refused number) = record { refusal = number; looked = 0; indexed = 0; index = 0 }
+rowOut (refusedAt number index) = record { refusal = number; looked = 0; indexed = 1; index = index }
 
 -- the calmer log by its number; indexed is 1 where an index comes with the refusal
 abbrev pub stretchOut : Given ℕ → StretchAnswer

@@ -13,12 +13,12 @@ use format::refusals::refusal_number;
 use number::Answer;
 use number::Number;
 use number::Ordered;
+use receivers::Calmer;
 use saved_lines::LineAnswer;
 ghost use mathlib.Core.Path.{_≡_};
 ghost use Rattle.boundaries.specs.Sums as sums;
-ghost use Rattle.c_answers.specs.Answers.{verdictOut, numberOut, orderOut, publishedOut, stepsOut, checkOut, patternOut, slicesOut, positionOut, reachOut, stretchOut, SmallIndex, boundaryOut};
+ghost use Rattle.c_answers.specs.Answers.{verdictOut, numberOut, orderOut, publishedOut, stepsOut, checkOut, patternOut, slicesOut, positionOut, reachOut, rowOut, stretchOut, SmallIndex, boundaryOut};
 ghost use Rattle.saved_lines.specs.Lines.{given};
-use receivers::Calmer;
 ghost use Rattle.receivers.specs.Answers.{calmerGiven};
 
 #[repr(C)]
@@ -74,6 +74,15 @@ pub struct PositionAnswer {
 pub struct ReachAnswer {
     pub refusal: u32,
     pub found: u32,
+    pub indexed: u32,
+    pub index: u32,
+}
+
+// How many lines were looked at.
+#[repr(C)]
+pub struct RowAnswer {
+    pub refusal: u32,
+    pub looked: u32,
     pub indexed: u32,
     pub index: u32,
 }
@@ -297,6 +306,31 @@ pub fn reach_out(answer: LineAnswer) -> ReachAnswer
             indexed: 1,
             index: index,
         }
+    }
+}
+
+pub fn row_out(answer: LineAnswer) -> RowAnswer
+    ensures { λ r. ⌜ r ≡ rowOut (given answer) ⌝ }
+{
+    match answer {
+        LineAnswer::Found(looked) => RowAnswer {
+            refusal: 0,
+            looked: looked,
+            indexed: 0,
+            index: 0,
+        },
+        LineAnswer::Refused(why) => RowAnswer {
+            refusal: refusal_number(why),
+            looked: 0,
+            indexed: 0,
+            index: 0,
+        },
+        LineAnswer::RefusedAt(why, index) => RowAnswer {
+            refusal: refusal_number(why),
+            looked: 0,
+            indexed: 1,
+            index: index,
+        },
     }
 }
 

@@ -1,14 +1,18 @@
 // Saved lines, for C.
 use c_answers::PositionAnswer;
 use c_answers::ReachAnswer;
+use c_answers::RowAnswer;
 use c_answers::position_out;
 use c_answers::reach_out;
+use c_answers::row_out;
 use saved_lines::nearest::nearest_line;
 use saved_lines::reach::lines_within;
+use saved_lines::row::nearest_lines;
 ghost use mathlib.Core.Path.{_≡_};
 ghost use lib.ListN.{length};
 ghost use Rattle.saved_lines.specs.Lines.{nearestLine, linesInOrder, linesWithin, withinWritten};
-ghost use Rattle.c_answers.specs.Answers.{positionOut, reachOut};
+ghost use Rattle.saved_lines.specs.Rows.{nearestLines, rowWritten};
+ghost use Rattle.c_answers.specs.Answers.{positionOut, reachOut, rowOut};
 
 // The position of the saved offset nearest to the query. Refuses 12, 9 (in the list with its index), 13, 15.
 #[no_mangle]
@@ -33,4 +37,20 @@ pub extern "C" fn zurkeb_lines_within(
 {
     let answer = lines_within(offsets, query, distance, out);
     reach_out(answer)
+}
+
+// The positions of the lines nearest to the queries, which ascend, into out, and the number of lines looked at. Refuses 11; 12, 9 (with
+// its index), 13, 15 of the list; 9 (with its index), 16 of the queries; a refused call leaves out as it was.
+#[no_mangle]
+pub extern "C" fn zurkeb_nearest_lines(
+    offsets: &[u32],
+    queries: &[u32],
+    out: &mut [u32],
+) -> RowAnswer
+    ensures answer { λ r. ⌜ r ≡ rowOut (nearestLines (now (offsets .entry)) (now (queries .entry)) (length (now (out .entry)))) ⌝ }
+    ensures written { λ _. ⌜ now (out .exit) ≡ rowWritten (nearestLines (now (offsets .entry)) (now (queries .entry)) (length (now (out .entry))))
+        (now (offsets .entry)) (now (queries .entry)) (now (out .entry)) ⌝ }
+{
+    let answer = nearest_lines(offsets, queries, out);
+    row_out(answer)
 }

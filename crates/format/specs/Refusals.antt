@@ -1,7 +1,7 @@
 -- The papers' refusals and their numbers: 1 to 11 of document 01, the others of document 02.
 use Prim.Native.Nat.{ℕ}
 use Rattle.format.specs.declared.Refusal.{Refusal}
-use Rattle.format.specs.declared.Refusal.the-variants.{FormatNotAdmitted, NoSuchDirection, NumberNotInFormat, DivisorZero, TooLarge, NotBinary, SmallerFirst, PremiseFails, NotFinite, NoSuchFormat, LengthsDiffer, ListLength, ListDescends, OutTooShort, ListRepeats, StretchOutside, StripCount}
+use Rattle.format.specs.declared.Refusal.the-variants.{FormatNotAdmitted, NoSuchDirection, NumberNotInFormat, DivisorZero, TooLarge, NotBinary, SmallerFirst, PremiseFails, NotFinite, NoSuchFormat, LengthsDiffer, ListLength, ListDescends, OutTooShort, ListRepeats, QueriesDescend, StretchOutside, StripCount}
 
 -- what is returned: the number in the table of refusals
 abbrev pub refusalNumber : Refusal → ℕ
@@ -20,5 +20,6 @@ refusalNumber ListLength = 12
 refusalNumber ListDescends = 13
 refusalNumber OutTooShort = 14
 refusalNumber ListRepeats = 15
+refusalNumber QueriesDescend = 16
 refusalNumber StretchOutside = 17
 refusalNumber StripCount = 18

@@ -34,6 +34,7 @@ pub enum Refusal {
     ListDescends,
     OutTooShort,
     ListRepeats,
+    QueriesDescend,
     StretchOutside,
     StripCount,
 }

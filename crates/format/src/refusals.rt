@@ -23,6 +23,7 @@ pub fn refusal_number(refusal: Refusal) -> u32
         Refusal::ListDescends => 13,
         Refusal::OutTooShort => 14,
         Refusal::ListRepeats => 15,
+        Refusal::QueriesDescend => 16,
         Refusal::StretchOutside => 17,
         Refusal::StripCount => 18,
     }

@@ -63,15 +63,15 @@ module _ (l : List ℕ) (t : Bool) where
 
 -- ---- what passed
 -- the test passed, where what is refused is not the answer
-went-on : (t : Bool) {x y : Examination} → unless t x y ≡ passed → (x ≡ passed → ⊥) → (t ≡ true) × (y ≡ passed)
+pub went-on : (t : Bool) {x y : Examination} → unless t x y ≡ passed → (x ≡ passed → ⊥) → (t ≡ true) × (y ≡ passed)
 unfolding unless
 went-on true e n = (refl, e)
 went-on false e n = absurd (n e)
 
-not-refused : {n : ℕ} → _≡_ {A = Examination} (refused n) passed → ⊥
+pub not-refused : {n : ℕ} → _≡_ {A = Examination} (refused n) passed → ⊥
 not-refused e = let z : _≡_ {A = ℕ} 0 1 = cc in omega arith
 
-not-refused-at : {n i : ℕ} → _≡_ {A = Examination} (refusedAt n i) passed → ⊥
+pub not-refused-at : {n i : ℕ} → _≡_ {A = Examination} (refusedAt n i) passed → ⊥
 not-refused-at e = let z : _≡_ {A = ℕ} 0 1 = cc in omega arith
 
 pub passed-checks : (l : List ℕ) (t : Bool) → linesChecked l t ≡ passed → Checked l × (t ≡ true)
@@ -97,3 +97,13 @@ pub nearest-after : (l : List ℕ) (q : ℕ) {r k : Check} → checked r ≡ lin
     → checked k then (λ _. gives (nearest (patternValues l) (patternValue q))) ≡ nearestLine l q
 unfolding nearestLine
 nearest-after l q e f = ap (λ (x : Examination). x then (λ _. gives (nearest (patternValues l) (patternValue q)))) (ap checked (sym f) ∙ e)
+
+-- and of a list that passed them
+pub checked-passes : (l : List ℕ) (q : ℕ) → Checked l → finite q ≡ true → nearestLine l q ≡ gives (nearest (patternValues l) (patternValue q))
+unfolding nearestLine linesChecked patternsChecked orderChecked
+checked-passes l q c f = ap (λ (x : Examination). x then (λ _. gives (nearest (patternValues l) (patternValue q)))) all
+  where
+    all : linesChecked l (finite q) ≡ passed
+    all =
+        unless-passed _ _ (and-made (le-leb 1 (length l) (c .some)) (le-leb (length l) 4096 (c .most))) ∙ unless-passed _ _ (c .finite)
+        ∙ unless-passed _ _ f ∙ unless-passed _ _ (ap not (c .order)) ∙ unless-passed _ _ (ap not (c .strict))

@@ -8,6 +8,7 @@ use lib.Signed.{leZ, ltZ}
 use borrow.Author.Tests.{ltb-true, ltb-false, lt-ltb, le-ltb}
 use Rattle.theory.proofs.Integers.{above, below, sum-parts, diff-parts, size-by, parts-eq}
 use Rattle.theory.proofs.Multiples.{dist}
+use Rattle.theory.proofs.Tests.{denied}
 use Rattle.format.proofs.Signed.{Under, le-true, le-false, lt-true, lt-false}
 use Rattle.saved_lines.specs.Offsets.{distance, nearer}
 
@@ -25,7 +26,7 @@ module _ (q v w : ℤ) where
   unfolding nearer
   nearer-false h = ltb-false _ _ h
 
-  nearer-made : distance v q < distance w q → nearer q v w ≡ true
+  pub nearer-made : distance v q < distance w q → nearer q v w ≡ true
   unfolding nearer
   nearer-made h = lt-ltb _ _ h
 
@@ -33,20 +34,27 @@ module _ (q v w : ℤ) where
   unfolding nearer
   nearer-fails h = le-ltb _ _ h
 
-  -- ---- by the sum: the greater is nearer exactly where v + w is below 2 q, the smaller exactly where it is above
-  module _ {b : Bool} where
-    pub greater-nearer : b ≡ ltZ w v → b ≡ true → {t : Bool} → t ≡ leZ (q +ℤ q) (v +ℤ w) → not t ≡ nearer q v w
-    greater-nearer e h {t} f = by t f
-      where
-        apart : Under w v
-        apart = lt-true w v (sym e ∙ h)
+  -- ---- the greater of two numbers
+  module _ (h : ltZ w v ≡ true) where
+    -- it is nearer where it is not above the query, and the other is where it is from the query on
+    pub greater-below : {t : Bool} → t ≡ ltZ q v → not t ≡ true → true ≡ nearer q v w
+    greater-below e g = sym (nearer-made (omega (arith, distance-is v q, distance-is w q, lt-true w v h, lt-false q v (denied e g))))
 
+    pub greater-above : {t : Bool} → t ≡ ltZ w q → not t ≡ true → false ≡ nearer q v w
+    greater-above e g = sym (nearer-fails (omega (arith, distance-is v q, distance-is w q, lt-true w v h, lt-false w q (denied e g))))
+
+    -- and it is nearer exactly where v + w is below 2 q
+    pub greater-nearer : {t : Bool} → t ≡ leZ (q +ℤ q) (v +ℤ w) → not t ≡ nearer q v w
+    greater-nearer {t} f = by t f
+      where
         by : (t : Bool) → t ≡ leZ (q +ℤ q) (v +ℤ w) → not t ≡ nearer q v w
         by true f =
-            sym (nearer-fails (omega (arith, distance-is v q, distance-is w q, apart, le-true (q +ℤ q) (v +ℤ w) (sym f), sum-parts q q, sum-parts v w)))
+            sym (nearer-fails (omega (arith, distance-is v q, distance-is w q, lt-true w v h, le-true (q +ℤ q) (v +ℤ w) (sym f), sum-parts q q, sum-parts v w)))
         by false f =
-            sym (nearer-made (omega (arith, distance-is v q, distance-is w q, apart, le-false (q +ℤ q) (v +ℤ w) (sym f), sum-parts q q, sum-parts v w)))
+            sym (nearer-made (omega (arith, distance-is v q, distance-is w q, lt-true w v h, le-false (q +ℤ q) (v +ℤ w) (sym f), sum-parts q q, sum-parts v w)))
 
+  -- ---- the smaller of two numbers is nearer exactly where v + w is above 2 q
+  module _ {b : Bool} where
     pub smaller-nearer : b ≡ ltZ v w → b ≡ true → {t : Bool} → t ≡ ltZ (q +ℤ q) (v +ℤ w) → t ≡ nearer q v w
     smaller-nearer e h {t} f = by t f
       where

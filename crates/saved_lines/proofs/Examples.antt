@@ -9,6 +9,7 @@ use Rattle.binary32.specs.Patterns.{finite, notFinite, magnitudeRead, patternVa
 use Rattle.saved_lines.specs.Offsets.{distance, nearer, isNearest, nearest, nearestOnes, isWithin, falls, descends, equals, repeats}
 use Rattle.saved_lines.specs.Positions.{positionsFrom, without}
 use Rattle.saved_lines.specs.Lines.{patternsChecked, orderChecked, linesChecked, nearestLine, linesInOrder, linesWithin}
+use Rattle.saved_lines.specs.Rows.{looked, rowLooked, queriesChecked, nearestLines}
 
 -- 1, 2, 3 and -1 as patterns
 abbrev one : ℕ
@@ -88,3 +89,18 @@ minus-zero = refl
 in-order : linesInOrder (minus-one ∷ one ∷ two ∷ three ∷ []) two three ≡ 2 ∷ 1 ∷ 3 ∷ 0 ∷ []
 unfolding nearestOnes nearest isNearest nearer none firstWhere without positionsFrom isWithin distance patternValue magnitudeRead
 in-order = refl
+
+-- ---- a row: 1 looks at the lines 1 and 2, 3 at 1, 2 and 4, which is not closer, 3 again at 2 and 4, 4 at 2 and 4
+row : nearestLines (one ∷ two ∷ 1082130432 ∷ []) (one ∷ three ∷ three ∷ 1082130432 ∷ []) 4 ≡ gives 9
+unfolding nearestLines queriesChecked rowLooked looked linesChecked patternsChecked orderChecked none firstWhere notFinite finite descends repeats someNeighbours falls equals nearest isNearest nearer distance patternValue magnitudeRead unless _and_ _or_
+row = refl
+
+-- no query: the list is still checked
+no-query : nearestLines (two ∷ one ∷ []) [] 0 ≡ refused 13
+unfolding nearestLines queriesChecked rowLooked looked linesChecked patternsChecked orderChecked none firstWhere notFinite finite descends repeats someNeighbours falls equals nearest isNearest nearer distance patternValue magnitudeRead unless _and_ _or_
+no-query = refl
+
+-- 9 of the queries before 16
+bad-row : nearestLines (one ∷ []) (two ∷ one ∷ 2139095040 ∷ []) 3 ≡ refusedAt 9 2
+unfolding nearestLines queriesChecked rowLooked looked linesChecked patternsChecked orderChecked none firstWhere notFinite finite descends repeats someNeighbours falls equals nearest isNearest nearer distance patternValue magnitudeRead unless _and_ _or_
+bad-row = refl

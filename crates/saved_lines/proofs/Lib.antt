@@ -10,9 +10,13 @@ pub mod Positions
 pub mod PositionLists
 pub mod Reaches
 pub mod Walks
+pub mod RowLaws
+pub mod RowPatterns
+pub mod RowChecks
 -- the answers in the requests' words
 pub mod Refusals
 pub mod NearestAnswers
 pub mod ReachAnswers
 pub mod OrderLaws
+pub mod RowAnswers
 pub mod Examples

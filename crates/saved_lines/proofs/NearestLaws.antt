@@ -97,7 +97,7 @@ module _ (vs : List ℤ) (q : ℤ) where
         by (no m) = omega arith
 
   -- and these say which it is
-  nearest-is : (n : ℕ) → Least vs q n → ((k : ℕ) → k < n → distance (at vs n) q < distance (at vs k) q) → nearest vs q ≡ n
+  pub nearest-is : (n : ℕ) → Least vs q n → ((k : ℕ) → k < n → distance (at vs n) q < distance (at vs k) q) → nearest vs q ≡ n
   unfolding nearest
   nearest-is n h b = first-is (isNearest vs q) (pos 0) vs n (h .position) (least-passes h) farther
     where
@@ -125,6 +125,13 @@ module _ (vs : List ℤ) where
   rises : descends vs ≡ false → (k : ℕ) → suc k < length vs → Upto (at vs k) (at vs (suc k))
   unfolding descends falls
   rises h k l = lt-false (at vs (suc k)) (at vs k) (neighbours-fail falls (pos 0) vs h k l)
+
+  pub ascends : descends vs ≡ false → Ascending vs
+  ascends h j zero l m = rw (zeros l) (omega arith)
+    where
+      zeros : j ≤ 0 → j ≡ 0
+      zeros l = omega arith
+  ascends h j (suc k) l m = ⊎-elim (λ e. rw e (omega arith)) (λ b. omega (arith, ascends h j k (omega arith) (omega arith), rises h k m)) (eq-or-lt-of-le l)
 
   -- 15 exactly where some offset equals the next
   pub repeats-made : (k : ℕ) → suc k < length vs → at vs k ≡ at vs (suc k) → repeats vs ≡ true

@@ -73,14 +73,14 @@ module _ (l : List ℕ) where
   allowed : leb 1 (length l) and leb (length l) 4096 ≡ true → Allowed l
   allowed h = record { some = leb-true 1 (length l) (and-left _ _ h); most = leb-true (length l) 4096 (and-right _ _ h) }
 
-  finite-before : AllFinite l (firstWhere notFinite l)
+  pub finite-before : AllFinite l (firstWhere notFinite l)
   finite-before k h = finite-made (getD l k 0) (first-before notFinite 0 l k h)
 
-  bad-there : none notFinite l ≡ false → firstWhere notFinite l < length l
+  pub bad-there : none notFinite l ≡ false → firstWhere notFinite l < length l
   unfolding none
   bad-there h = leb-false (length l) (firstWhere notFinite l) h
 
-  bad-first : none notFinite l ≡ false → finite (getD l (firstWhere notFinite l) 0) ≡ false
+  pub bad-first : none notFinite l ≡ false → finite (getD l (firstWhere notFinite l) 0) ≡ false
   bad-first h = finite-fails (getD l (firstWhere notFinite l) 0) (first-passes notFinite 0 l (bad-there h))
 
   -- 13 exactly where some offset is above the next

@@ -4,3 +4,4 @@ pub mod Offsets
 pub mod Searches
 pub mod Lines
 pub mod Walks
+pub mod Rows

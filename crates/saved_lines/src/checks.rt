@@ -11,7 +11,7 @@ ghost use Rattle.saved_lines.specs.Offsets.{descends, repeats};
 ghost use Rattle.saved_lines.specs.Lines.{checked, linesChecked};
 
 // Is some offset above the next?
-fn is_descending(offsets: &[u32]) -> bool
+pub fn is_descending(offsets: &[u32]) -> bool
     ensures { λ r. ⌜ r ≡ descends (patternValues (now (offsets .entry))) ⌝ }
 {
     let mut i = 1;

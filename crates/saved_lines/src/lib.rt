@@ -1,8 +1,9 @@
-// Saved lines: the one nearest to a query, and those within reach. Offsets are binary32 patterns, and every comparison is one of exact values.
+// Saved lines: the one nearest to a query, those within reach, and the nearest for each of a row of queries. Offsets are binary32 patterns, and every comparison is one of exact values.
 pub mod checks;
 pub mod distances;
 pub mod nearest;
 pub mod reach;
+pub mod row;
 pub mod search;
 
 use format::Refusal;
@@ -14,7 +15,7 @@ pub enum Check {
     RefusedAt(Refusal, u32),
 }
 
-// A position, or a number of positions.
+// A position, or a number of positions or lines.
 pub enum LineAnswer {
     Found(u32),
     Refused(Refusal),

@@ -1,13 +1,17 @@
 -- `saved_lines::distances::is_nearer` meets its contract.
+use mathlib.Core.Path.{sym, _∙_}
 use borrow.Author.Needs.{needs}
-use Rattle.saved_lines.proofs.DistanceLaws.{greater-nearer, smaller-nearer, equal-nearer}
+use Rattle.saved_lines.proofs.DistanceLaws.{smaller-nearer, equal-nearer}
 use Rattle.saved_lines.proofs.distances.is_nearer.Statement.{statement}
 use Rattle.saved_lines.proofs.distances.is_nearer.Tie as tie
 
+is-greater-nearer-requires : tie.Need-is-greater-nearer-requires
+is-greater-nearer-requires c κs =
+    let s = c .before .before .pre in
+    (s .0, s .1, s .2, sym (c .before .is-below .ensures) ∙ c .if1 .taken)
+
 returns : tie.Need-returns
-returns c =
-    let b = c .before .before in
-    greater-nearer _ _ _ (b .is-below .ensures) (c .before .if1 .taken) (c .reaches-twice .ensures)
+returns c = c .is-greater-nearer .ensures
 
 returns-2 : tie.Need-returns-2
 returns-2 c =
@@ -25,7 +29,7 @@ is-nearer-spec =
     tie.close
     (tie.spec
     (λ c κs. search needs)
-    (λ c κs. search needs)
+    is-greater-nearer-requires
     returns
     (λ c κs. search needs)
     (λ c κs. search needs)
