@@ -150,14 +150,6 @@ module _ {A : Type 0} (test : A → Bool) (d : A) where
       inside : n < length xs → firstWhere test xs ≡ n
       inside l = first-is test d xs n l (high n (omega arith) l) low
 
-  -- the first is not after any that passes
-  pub first-upto : (xs : List A) (n : ℕ) → test (getD xs n d) ≡ true → firstWhere test xs ≤ n
-  first-upto xs n t = by (decLe (firstWhere test xs) n)
-    where
-      by : Dec (firstWhere test xs ≤ n) → firstWhere test xs ≤ n
-      by (yes l) = l
-      by (no l) = absurd (never (sym t ∙ first-before test d xs n (omega arith)))
-
 -- one more pair of neighbours
 pub neighbours-more : {P : ℕ → Type 0} (i : ℕ) → 1 ≤ i → ((k : ℕ) → suc k < i → P k) → P (i - 1) → (k : ℕ) → suc k < i + 1 → P k
 neighbours-more {P} i h before here k l = ⊎-elim (λ e. subst P (last e) here) (λ m. before k m) (eq-or-lt-of-le (upto l))
