@@ -32,9 +32,9 @@ use Rattle.number.proofs.Entries.{Passed, passed, one-member}
 use Rattle.number.proofs.Negation.{signed-member, negated-value}
 use Rattle.wide.proofs.Signs.{sum-none}
 use Rattle.wide.proofs.Sizes.{greatest-below}
-use Rattle.prepared_arithmetic.specs.Operations.{roundedZ, roundedProduct, summed, subtracted, multiplied, divided}
-use Rattle.prepared_arithmetic.proofs.Prepared.{no-magnitude, parts-above, parts-below, divisor-positive, divisor-some}
-use Rattle.prepared_arithmetic.proofs.Outcome.{rounded-exact, roundedZ-exact}
+use Rattle.arithmetic.specs.Operations.{roundedZ, roundedProduct, summed, subtracted, multiplied, divided}
+use Rattle.arithmetic.proofs.Prepared.{no-magnitude, parts-above, parts-below, divisor-positive, divisor-some}
+use Rattle.arithmetic.proofs.Outcome.{rounded-exact, roundedZ-exact}
 use Rattle.arithmetic.proofs.Calls.{Checked, entry-passed}
 
 -- the checks depend on what the numbers' tests say together

@@ -29,9 +29,9 @@ use Rattle.number.specs.Entry.{entry, after}
 use Rattle.number.proofs.Membership.{Member, members, member-made}
 use Rattle.number.proofs.Entries.{pair-made, entry-made}
 use Rattle.wide.proofs.Signs.{signed-times}
-use Rattle.prepared_arithmetic.specs.Operations.{roundedProduct, roundedQuotient, summed, subtracted, multiplied, divided}
-use Rattle.prepared_arithmetic.proofs.Prepared.{divisor-positive, divisor-some, divisor-none}
-use Rattle.prepared_arithmetic.proofs.Outcome.{Given, Outcome, outcome-given, outcome-refused, outcome-only, rounded-outcome, roundedZ-outcome}
+use Rattle.arithmetic.specs.Operations.{roundedProduct, roundedQuotient, summed, subtracted, multiplied, divided}
+use Rattle.arithmetic.proofs.Prepared.{divisor-positive, divisor-some, divisor-none}
+use Rattle.arithmetic.proofs.Outcome.{Given, Outcome, outcome-given, outcome-refused, outcome-only, rounded-outcome, roundedZ-outcome}
 
 -- what the checks ask: an admitted format, a direction and two numbers of the format
 pub record Checked (f : Format) (d : ℕ) (a b : Number) : Type 0 where

@@ -4,7 +4,8 @@ use mathlib.Core.Path.{_≡_}
 use native.Mathlib.Omega.{arith}
 use lib.IntN.{ℤ, pos, _+ℤ_, _*ℤ_}
 use lib.Signed.{_≤ℤ_}
-use Rattle.theory.specs.Round.{Direction, upward, downward}
+use Rattle.theory.specs.declared.Direction.{Direction}
+use Rattle.theory.specs.declared.Direction.the-variants.{Upward, Downward}
 use Rattle.theory.proofs.Integers.{sum-parts, le-parts, parts-le, scale-le-parts, scale-ge-parts, scale-above, scale-below}
 use Rattle.theory.proofs.Signed.{downward-le, le-upward, roundZ-mono}
 use Rattle.format.specs.declared.Format.{Format}
@@ -14,15 +15,15 @@ use Rattle.number.specs.declared.Number.{Number}
 use Rattle.number.specs.declared.Answer.{Answer}
 use Rattle.number.specs.declared.Answer.the-variants.{Value}
 use Rattle.number.specs.Numbers.{value}
-use Rattle.prepared_arithmetic.specs.Operations.{summed}
-use Rattle.prepared_arithmetic.proofs.Outcome.{Given}
+use Rattle.arithmetic.specs.Operations.{summed}
+use Rattle.arithmetic.proofs.Outcome.{Given}
 use Rattle.arithmetic.proofs.Calls.{Rounds, summed-rounds}
 
 -- ---- every operation, by the fraction N / D that its answer rounds
-pub given-down : {f : Format} {N : ℤ} {D : ℕ} {x : Number} → Given f downward N D x → (value f x *ℤ pos D) ≤ℤ N
+pub given-down : {f : Format} {N : ℤ} {D : ℕ} {x : Number} → Given f Downward N D x → (value f x *ℤ pos D) ≤ℤ N
 given-down {N} g = rw (g .value) (downward-le (positional (g .admits)) (g .divisor) N)
 
-pub given-up : {f : Format} {N : ℤ} {D : ℕ} {x : Number} → Given f upward N D x → N ≤ℤ (value f x *ℤ pos D)
+pub given-up : {f : Format} {N : ℤ} {D : ℕ} {x : Number} → Given f Upward N D x → N ≤ℤ (value f x *ℤ pos D)
 given-up {N} g = rw (g .value) (le-upward (positional (g .admits)) (g .divisor) N)
 
 pub given-mono : {f : Format} {d : Direction} {N N′ : ℤ} {D D′ : ℕ} {x y : Number} → Given f d N D x → Given f d N′ D′ y

@@ -4,7 +4,7 @@ use mathlib.Core.Path.{_≡_, ap, ap₂, _∙_}
 use mathlib.Core.Bool.{true}
 use mathlib.Core.List.{List, [], _∷_}
 use Rattle.theory.specs.Lists.{all}
-use Rattle.theory.specs.Round as theory
+use Rattle.theory.specs.declared.Direction.{Direction}
 use Rattle.theory.proofs.Tests.{and-left}
 use Rattle.format.specs.declared.Format.{Format}
 use Rattle.format.specs.declared.Prepared.{Prepared}
@@ -36,7 +36,7 @@ module _ (f : Format) (d : ℕ) (xs : List Number) {q : Prepared} (h : entered f
       }
 
   -- the inner function's answer is the call's
-  pub answered : (inner : Format → theory.Direction → Answer) {s : theory.Direction} {r : Answer} → s ≡ direction d → r ≡ inner (q .format) s
+  pub answered : (inner : Format → Direction → Answer) {s : Direction} {r : Answer} → s ≡ direction d → r ≡ inner (q .format) s
       → r ≡ after (entry f (d ∷ []) xs) Refused (inner f (direction d))
   answered inner e k = k ∙ ap₂ inner (entrance .same) e ∙ goes-on f (d ∷ []) xs Refused (inner f (direction d)) h
 

@@ -11,7 +11,7 @@ use borrow.Author.Tests.{le-leb, lt-leb}
 use Rattle.theory.specs.Lists.{all}
 use Rattle.theory.specs.Tests.{_and_}
 use Rattle.theory.specs.Signed.{signed, is-negative}
-use Rattle.theory.specs.Round as theory
+use Rattle.theory.specs.declared.Direction.{Direction}
 use Rattle.theory.specs.Wide.{Wide}
 use Rattle.theory.proofs.Powers.{pow-add, pow-pos, pow-mono, pow-half}
 use Rattle.theory.proofs.Wide.{wide-pow}
@@ -36,10 +36,10 @@ use Rattle.number.specs.Entry.{entry, after}
 use Rattle.number.proofs.Entries.{entry-made, after-passed}
 use Rattle.number.proofs.Membership.{Member, members, member-made}
 use Rattle.number.proofs.Values.{number-magnitude, number-value, number-member}
-use Rattle.prepared_arithmetic.specs.Operations.{rounded, roundedQuotient, roundedFraction, divided, fractioned}
-use Rattle.prepared_arithmetic.proofs.Prepared.{parts-above, parts-below, no-magnitude, no-significand, divisor-positive, divisor-some, denominator-some, denominator-none}
-use Rattle.prepared_arithmetic.proofs.Outcome.{Outcome, rounded-outcome}
-use Rattle.prepared_arithmetic.proofs.Fractions.{at-place}
+use Rattle.arithmetic.specs.Operations.{rounded, roundedQuotient, roundedFraction, divided, fractioned}
+use Rattle.arithmetic.proofs.Prepared.{parts-above, parts-below, no-magnitude, no-significand, divisor-positive, divisor-some, denominator-some, denominator-none}
+use Rattle.arithmetic.proofs.Outcome.{Outcome, rounded-outcome}
+use Rattle.arithmetic.proofs.Fractions.{at-place}
 use Rattle.arithmetic.proofs.Algebra.{xor-plus, reach}
 
 -- ---- N and D
@@ -113,7 +113,7 @@ same-sign (pos a) (negsuc b) m j hm hj e = absurd (omega (arith, ap below e, sca
 same-sign (negsuc a) (pos b) m j hm hj e = absurd (omega (arith, ap below e, scale-below (negsuc a) j, scale-below (pos b) m, mul-pos {m = suc a} {n = j} (omega arith) hj))
 same-sign (negsuc a) (negsuc b) m j hm hj e = refl
 
-rounded-same : {f : Format} → Admitted f → (d : theory.Direction) {s t : Bool} {N D N′ D′ : ℕ} → s ≡ t → Same N D N′ D′ → rounded f d s N D ≡ rounded f d t N′ D′
+rounded-same : {f : Format} → Admitted f → (d : Direction) {s t : Bool} {N D N′ D′ : ℕ} → s ≡ t → Same N D N′ D′ → rounded f d s N D ≡ rounded f d t N′ D′
 unfolding rounded
 rounded-same {f} ok d {t = t} e h = rw e (ap (delivered f t) (round-same (positional ok) d t h))
 

@@ -1,4 +1,9 @@
--- The laws that the calls' proofs go by, and the laws that a user expects.
+-- The laws that the operations' proofs go by, and the laws that a user expects.
+pub mod Prepared
+-- what an answer says of the exact result
+pub mod Outcome
+pub mod Fractions
+pub mod Results
 pub mod Entered
 -- what a call's answer says of the exact result
 pub mod Calls

@@ -1,15 +1,40 @@
 // The product.
+use crate::operands::deliver_wide;
+use crate::operands::wide_of;
 use format::Format;
 use format::Preparation;
+use format::Prepared;
 use format::admission::prepare;
 use format::directions::direction_of;
 use number::Answer;
 use number::Number;
 use number::entry::with_direction;
 use number::entry::with_number;
-use prepared_arithmetic::product::multiply;
+use number::exponents::above_zero;
+use number::exponents::below_zero;
+use theory::Direction;
 ghost use mathlib.Core.Path.{_≡_};
-ghost use Rattle.prepared_arithmetic.specs.Operations.{multiplied};
+ghost use mathlib.Core.Bool.{true};
+ghost use Rattle.number.specs.Numbers.{member};
+ghost use Rattle.number.specs.Entry.{Usable};
+ghost use Rattle.arithmetic.specs.Operations.{roundedProduct};
+ghost use Rattle.arithmetic.specs.Operations.{multiplied};
+
+// a * b, in a format that was prepared. Refuses 5.
+pub fn multiply(prepared: Prepared, direction: Direction, a: Number, b: Number) -> Answer
+    requires { ⌜ Usable prepared × (member (prepared .format) a ≡ true) × (member (prepared .format) b ≡ true) ⌝ }
+    ensures { λ r. ⌜ r ≡ roundedProduct (prepared .format) direction a b ⌝ }
+{
+    let scale = prepared.scale;
+    let x = wide_of(prepared, a);
+    let y = wide_of(prepared, b);
+    let up = above_zero(prepared.format.emin);
+    let down = below_zero(prepared.format.emin);
+    deliver_wide(
+        prepared,
+        wide::product::product(scale, direction, x, y, up, down),
+    )
+}
 
 // a * b. Refuses 1, 2, 3, 5.
 pub fn product(format: Format, direction: u32, a: Number, b: Number) -> Answer

@@ -1,15 +1,44 @@
 // The quotient.
+use crate::operands::deliver_wide;
+use crate::operands::wide_of;
 use format::Format;
 use format::Preparation;
+use format::Prepared;
+use format::Refusal;
 use format::admission::prepare;
 use format::directions::direction_of;
 use number::Answer;
 use number::Number;
 use number::entry::with_direction;
 use number::entry::with_number;
-use prepared_arithmetic::quotient::divide;
+use number::exponents::above_zero;
+use number::exponents::below_zero;
+use theory::Direction;
 ghost use mathlib.Core.Path.{_≡_};
-ghost use Rattle.prepared_arithmetic.specs.Operations.{divided};
+ghost use mathlib.Core.Bool.{true};
+ghost use Rattle.number.specs.Numbers.{member};
+ghost use Rattle.number.specs.Entry.{Usable};
+ghost use Rattle.arithmetic.specs.Operations.{roundedQuotient};
+ghost use Rattle.arithmetic.specs.Operations.{divided};
+
+// a / b, in a format that was prepared. Refuses 4, 5.
+pub fn divide(prepared: Prepared, direction: Direction, a: Number, b: Number) -> Answer
+    requires { ⌜ Usable prepared × (member (prepared .format) a ≡ true) × (member (prepared .format) b ≡ true) ⌝ }
+    ensures { λ r. ⌜ r ≡ roundedQuotient (prepared .format) direction a b ⌝ }
+{
+    if b.significand == 0 {
+        return Answer::Refused(Refusal::DivisorZero);
+    }
+    let scale = prepared.scale;
+    let x = wide_of(prepared, a);
+    let y = wide_of(prepared, b);
+    let up = below_zero(prepared.format.emin);
+    let down = above_zero(prepared.format.emin);
+    deliver_wide(
+        prepared,
+        wide::quotient::quotient(scale, direction, x, y, up, down),
+    )
+}
 
 // a / b. Refuses 1, 2, 3, 4, 5.
 pub fn quotient(format: Format, direction: u32, a: Number, b: Number) -> Answer

@@ -20,7 +20,9 @@ use lib.Ieee.Nearest.{closest, closest-same, div-same}
 use Rattle.theory.specs.Place.{Positional, place, step}
 use Rattle.theory.specs.Tests.{unless}
 use Rattle.theory.specs.Wide.{Wide}
-use Rattle.theory.specs.Round.{nearest-even, Location, chosen, takes-upper, round}
+use Rattle.theory.specs.Round.{chosen, takes-upper, round}
+use Rattle.theory.specs.declared.Direction.the-variants.{NearestEven}
+use Rattle.theory.specs.declared.Location.{Location}
 use Rattle.theory.specs.Signed.{signed, roundZ}
 use Rattle.theory.proofs.Tests.{unless-passed, unless-failed}
 use Rattle.theory.proofs.Powers.{pow-pos, pow-mono}
@@ -48,7 +50,7 @@ answered (fin s m e) = Value (number binary32 s (m * up e * 2 ^ 149 / down e))
 
 -- ± N / D units of 2 ^ -149, rounded to nearest with ties to even, and the answer that it makes
 abbrev pub nearestRound : (negative : Bool) (N D : ℕ) → ℕ
-nearestRound negative N D = round 2 24 nearest-even negative N D
+nearestRound negative N D = round 2 24 NearestEven negative N D
 
 abbrev pub nearestOf : (negative : Bool) (N D : ℕ) → Answer
 nearestOf negative N D = delivered binary32 negative (nearestRound negative N D)
@@ -86,7 +88,7 @@ compared a b = by (compare a b) (leb→le a b) (nleb→lt a b) (eqb→eq a b) (�
 -- n steps and a remainder r of a step of u
 module _ (negative : Bool) (n r u s : ℕ) (pos : 1 ≤ u) where
   abbrev choice : Location → ℕ
-  choice c = cond (takes-upper nearest-even negative (eqb (n % 2) 1) c) (suc n * s) (n * s)
+  choice c = cond (takes-upper NearestEven negative (eqb (n % 2) 1) c) (suc n * s) (n * s)
 
   tie : (n + n % 2) * s ≡ cond (eqb (n % 2) 1) (suc n * s) (n * s)
   tie = by (ℕ-discrete (n % 2) 1)
@@ -117,7 +119,7 @@ closest-round negative N {D} hD =
     let w = step 2 24 (N / D) in
     let u : ℕ = D * w in
     steps-nearest negative (N / u) (N % u) u w (mul-pos hD (step-pos two (N / D))) (compared (N % u * 2) u) (location-found (N % u) u 0 1)
-    ∙ sym (round-divided two (divided two N hD) nearest-even negative)
+    ∙ sym (round-divided two (divided two N hD) NearestEven negative)
 
 -- ---- the greatest number is the greatest of the wide format below 2 ^ 128, which is 2 ^ 277 units
 greatest-under : {n : ℕ} → n ≤ greatest binary32 → n < 2 ^ 277
@@ -179,7 +181,7 @@ module _ (s : Bool) {num den N D : ℕ} (e : Exact num den N D) where
   round-infinite h =
       round-units
       ∙ ap (λ (t : Bool). cond t (odd 25 s q k 149) (inf s))
-      (le-ltb (q * 2 ^ k) (2 ^ 277) (subst (λ (n : ℕ). 2 ^ 277 ≤ n) (sym rounded) (greatest-least (round-wide two N (e .divisor′) nearest-even s) h)))
+      (le-ltb (q * 2 ^ k) (2 ^ 277) (subst (λ (n : ℕ). 2 ^ 277 ≤ n) (sym rounded) (greatest-least (round-wide two N (e .divisor′) NearestEven s) h)))
 
   pub round-standard : answered (ieee.round ieee.binary32 s num den) ≡ nearestOf s N D
   unfolding delivered answered
@@ -203,4 +205,4 @@ delivered-same s t m n e =
 pub nearest-same : (s t : Bool) (m n : ℕ) {D : ℕ} → 1 ≤ D → signed s m ≡ signed t n → nearestOf s m D ≡ nearestOf t n D
 nearest-same s t m n {D} hD e =
     delivered-same s t (nearestRound s m D) (nearestRound t n D)
-    (sym (roundZ-signed two hD nearest-even s m) ∙ ap (λ (v : ℤ). roundZ 2 24 nearest-even v D) e ∙ roundZ-signed two hD nearest-even t n)
+    (sym (roundZ-signed two hD NearestEven s m) ∙ ap (λ (v : ℤ). roundZ 2 24 NearestEven v D) e ∙ roundZ-signed two hD NearestEven t n)

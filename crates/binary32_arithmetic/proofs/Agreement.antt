@@ -8,12 +8,12 @@ use native.Mathlib.Omega.{arith}
 use lib.Ieee.{ofBits, add, sub, mul, div}
 use lib.Ieee as ieee
 use borrow.Author.Tests.{ne-eqb}
-use Rattle.theory.specs.Round.{nearest-even}
+use Rattle.theory.specs.declared.Direction.the-variants.{NearestEven}
 use Rattle.theory.proofs.Tests.{and-made, unless-passed}
 use Rattle.format.specs.Directions.{isDirection, direction}
 use Rattle.format.specs.Published.{binary32}
 use Rattle.number.specs.Numbers.{magnitude}
-use Rattle.prepared_arithmetic.specs.Operations.{rounded, roundedZ, roundedProduct, roundedQuotient}
+use Rattle.arithmetic.specs.Operations.{rounded, roundedZ, roundedProduct, roundedQuotient}
 use Rattle.binary32.specs.Patterns.{finite, numberRead, answerWritten}
 use Rattle.binary32.proofs.RoundTrips.{read-made}
 use Rattle.binary32.proofs.StandardPatterns.{patterned, pattern-sum, pattern-difference, pattern-product, pattern-quotient}
@@ -23,7 +23,7 @@ use Rattle.binary32_arithmetic.specs.Calls.{roundedBy, onPatterns, patte
 
 module _ (a b : ℕ) (ha : finite a ≡ true) (hb : finite b ≡ true) where
   -- the operation of format 2 on what was read
-  called : (operation : Operation) → patternCall operation 0 a b ≡ answerWritten (roundedBy operation binary32 nearest-even (numberRead a) (numberRead b))
+  called : (operation : Operation) → patternCall operation 0 a b ≡ answerWritten (roundedBy operation binary32 NearestEven (numberRead a) (numberRead b))
   unfolding patternCall onPatterns isDirection direction
   called operation = unless-passed _ _ refl ∙ unless-passed _ _ (and-made ha hb)
 
@@ -39,16 +39,16 @@ module _ (a b : ℕ) (ha : finite a ≡ true) (hb : finite b ≡ true) where
   unfolding roundedProduct rounded
   product-agrees =
       called Product
-      ∙ ap (λ (n : ℕ). answerWritten (rounded binary32 nearest-even (xor (numberRead a .negative) (numberRead b .negative)) n (2 ^ 149)))
+      ∙ ap (λ (n : ℕ). answerWritten (rounded binary32 NearestEven (xor (numberRead a .negative) (numberRead b .negative)) n (2 ^ 149)))
       (mul-one (magnitude binary32 (numberRead a) * magnitude binary32 (numberRead b)))
       ∙ sym (pattern-product a b (read-made a ha) (read-made b hb))
 
-  quotient-is : 1 ≤ magnitude binary32 (numberRead b) → roundedQuotient binary32 nearest-even (numberRead a) (numberRead b)
-      ≡ rounded binary32 nearest-even (xor (numberRead a .negative) (numberRead b .negative)) (magnitude binary32 (numberRead a) * 2 ^ 149) (magnitude binary32 (numberRead b))
+  quotient-is : 1 ≤ magnitude binary32 (numberRead b) → roundedQuotient binary32 NearestEven (numberRead a) (numberRead b)
+      ≡ rounded binary32 NearestEven (xor (numberRead a .negative) (numberRead b .negative)) (magnitude binary32 (numberRead a) * 2 ^ 149) (magnitude binary32 (numberRead b))
   unfolding roundedQuotient
   quotient-is h =
       rw (ne-eqb (magnitude binary32 (numberRead b)) 0 (λ e. omega arith))
-      (ap (λ (n : ℕ). rounded binary32 nearest-even (xor (numberRead a .negative) (numberRead b .negative)) (magnitude binary32 (numberRead a) * 2 ^ 149) n)
+      (ap (λ (n : ℕ). rounded binary32 NearestEven (xor (numberRead a .negative) (numberRead b .negative)) (magnitude binary32 (numberRead a) * 2 ^ 149) n)
       (mul-one (magnitude binary32 (numberRead b))))
 
   pub quotient-agrees : 1 ≤ magnitude binary32 (numberRead b)

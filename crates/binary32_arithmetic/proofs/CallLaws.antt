@@ -6,7 +6,7 @@ use mathlib.Core.Bool.{Bool, true, false}
 use mathlib.Core.List.{[], _∷_}
 use Rattle.theory.specs.Lists.{all}
 use Rattle.theory.specs.Tests.{_and_, unless}
-use Rattle.theory.specs.Round.{Direction}
+use Rattle.theory.specs.declared.Direction.{Direction}
 use Rattle.theory.proofs.Tests.{and-made, unless-passed, unless-failed}
 use Rattle.format.specs.declared.Refusal.the-variants.{NoSuchDirection, NotFinite}
 use Rattle.format.specs.declared.Verdict.the-variants as verdict
@@ -17,7 +17,7 @@ use Rattle.number.specs.declared.Answer.{Answer}
 use Rattle.number.specs.declared.Answer.the-variants as answer
 use Rattle.number.specs.Numbers.{member}
 use Rattle.number.specs.Entry.{entry, after}
-use Rattle.prepared_arithmetic.specs.Operations.{summed, subtracted, multiplied, divided}
+use Rattle.arithmetic.specs.Operations.{summed, subtracted, multiplied, divided}
 use Rattle.binary32.specs.declared.Pattern.{Pattern}
 use Rattle.binary32.specs.declared.Pattern.the-variants as pattern
 use Rattle.binary32.specs.Patterns.{finite, patternRead, answerWritten}

@@ -11,7 +11,8 @@ use lib.Dec.{eqb}
 use lib.IntN.{ℤ, pos, negℤ, _+ℤ_}
 use lib.Signed.{leZ, ltZ}
 use Rattle.theory.specs.Place.{Positional}
-use Rattle.theory.specs.Round.{downward}
+use Rattle.theory.specs.declared.Direction.{Direction}
+use Rattle.theory.specs.declared.Direction.the-variants.{Downward}
 use Rattle.theory.specs.Signed.{signed, WideZ, roundZ}
 use Rattle.theory.proofs.Powers.{pow-pos}
 use Rattle.theory.proofs.Wide.{wide-zero}
@@ -20,8 +21,6 @@ use Rattle.theory.proofs.Integers.{above, below, sum-parts, parts-eq, neg-above
 use Rattle.theory.proofs.Signed.{downward-le, downward-greatest}
 use Rattle.theory.proofs.Tests.{never}
 use Rattle.format.specs.declared.Scale.{Scale}
-use Rattle.format.specs.declared.Direction.{Direction}
-use Rattle.format.specs.declared.Direction.the-variants.{Downward}
 use Rattle.format.specs.declared.Prepared.{Prepared}
 use Rattle.format.specs.Formats.{Scaled, scaleOf, preparedOf}
 use Rattle.format.specs.Published.{binary32}
@@ -35,7 +34,7 @@ use Rattle.number.specs.declared.Number.{Number}
 use Rattle.number.specs.Numbers.{member, magnitude, value}
 use Rattle.number.proofs.Membership.{Member}
 use Rattle.number.proofs.Values.{member-canonical, member-highest}
-use Rattle.prepared_arithmetic.specs.Operands.{wideOf}
+use Rattle.arithmetic.specs.Operands.{wideOf}
 use Rattle.binary32.specs.Patterns.{finite, patternValue, numberRead}
 use Rattle.binary32.proofs.Fields.{binary32-limits}
 use Rattle.binary32.proofs.RoundTrips.{reads, read-made, read-member, read-inside}
@@ -72,7 +71,7 @@ sum-placed d x y {k} h g =
 
 -- ---- the sum, rounded down
 module _ (x y : Wide) where
-  pub down-value : valueOf 2 (summed 2 24 Downward x y) ≡ roundZ 2 24 downward (valueOf 2 x +ℤ valueOf 2 y) 1
+  pub down-value : valueOf 2 (summed 2 24 Downward x y) ≡ roundZ 2 24 Downward (valueOf 2 x +ℤ valueOf 2 y) 1
   down-value = summed-value binary-24 Downward x y
 
   -- a result below zero is one that is not zero
@@ -92,11 +91,11 @@ module _ (x y : Wide) where
 
 -- N rounded down is at least a number of the format exactly where N is
 module _ (N w : ℤ) (h : WideZ 2 24 w) where
-  down-reaches : Upto w N → Upto w (roundZ 2 24 downward N 1)
+  down-reaches : Upto w N → Upto w (roundZ 2 24 Downward N 1)
   down-reaches l = le-parts (downward-greatest binary-24 (omega arith) N w h (parts-scale-le w 1 N (omega arith)))
 
-  reaches-down : Upto w (roundZ 2 24 downward N 1) → Upto w N
-  reaches-down l = omega (arith, scale-le-parts (roundZ 2 24 downward N 1) 1 (downward-le binary-24 (omega arith) N))
+  reaches-down : Upto w (roundZ 2 24 Downward N 1) → Upto w N
+  reaches-down l = omega (arith, scale-le-parts (roundZ 2 24 Downward N 1) 1 (downward-le binary-24 (omega arith) N))
 
 turned-value : (x : Wide) → valueOf 2 (turned x) ≡ negℤ (valueOf 2 x)
 turned-value x = sym (negate-signed (x .negative) (sizeOf 2 x))

@@ -6,7 +6,7 @@ use native.Mathlib.Omega.{arith}
 use native.Mathlib.Nat.{le-trans, le-of-eq, mul-le-mul-left}
 use lib.IntN.{ℤ, natAbs, _+ℤ_}
 use Rattle.theory.specs.Tests.{_and_, unless}
-use Rattle.theory.specs.Round.{Direction}
+use Rattle.theory.specs.declared.Direction.{Direction}
 use Rattle.theory.specs.Signed.{is-negative, roundZ}
 use Rattle.theory.proofs.Tests.{and-made, unless-passed}
 use Rattle.theory.proofs.Integers.{size-parts, sum-parts, size-signed}
@@ -23,8 +23,8 @@ use Rattle.number.specs.declared.Answer.{Answer}
 use Rattle.number.specs.declared.Answer.the-variants.{Value}
 use Rattle.number.specs.Numbers.{magnitude, value, greatest}
 use Rattle.number.proofs.Values.{greatest-wide}
-use Rattle.prepared_arithmetic.specs.Operations.{roundedZ}
-use Rattle.prepared_arithmetic.proofs.Outcome.{Outcome, given, too-large, roundedZ-outcome}
+use Rattle.arithmetic.specs.Operations.{roundedZ}
+use Rattle.arithmetic.proofs.Outcome.{Outcome, given, too-large, roundedZ-outcome}
 use Rattle.binary32.specs.Patterns.{fieldOf, finite, magnitudeRead, numberRead, answerWritten}
 use Rattle.binary32.proofs.Fields.{binary32-limits, endless-field}
 use Rattle.binary32.proofs.RoundTrips.{read-made, read-magnitude}

@@ -5,7 +5,7 @@ use Prim.Native.Nat.{ℕ}
 use native.Mathlib.Omega.{arith}
 use Rattle.theory.specs.Tests.{_and_, unless}
 use Rattle.theory.proofs.Tests.{and-left, and-right, and-made, unless-passed, unless-failed}
-use Rattle.theory.specs.Round.{Direction}
+use Rattle.theory.specs.declared.Direction.{Direction}
 use Rattle.format.specs.declared.Refusal.{Refusal}
 use Rattle.format.specs.declared.Refusal.the-variants.{NotFinite}
 use Rattle.format.specs.Published.{binary32}

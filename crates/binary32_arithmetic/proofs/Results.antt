@@ -1,7 +1,7 @@
 -- What the operations of format 2 give is in the format.
 use mathlib.Core.Path.{_≡_}
 use mathlib.Core.Bool.{true}
-use Rattle.theory.specs.Round.{Direction}
+use Rattle.theory.specs.declared.Direction.{Direction}
 use Rattle.format.specs.Published.{binary32}
 use Rattle.number.specs.declared.Number.{Number}
 use Rattle.number.specs.declared.Answer.the-variants.{Value}
@@ -10,7 +10,7 @@ use Rattle.binary32.proofs.Fields.{binary32-limits}
 use Rattle.binary32_arithmetic.specs.declared.Operation.{Operation}
 use Rattle.binary32_arithmetic.specs.declared.Operation.the-variants.{Sum, Difference, Product, Quotient}
 use Rattle.binary32_arithmetic.specs.Calls.{roundedBy}
-use Rattle.prepared_arithmetic.proofs.Results.{sum-member, difference-member, product-member, quotient-member}
+use Rattle.arithmetic.proofs.Results.{sum-member, difference-member, product-member, quotient-member}
 
 pub result-member : (operation : Operation) (d : Direction) (a b : Number) {x : Number} → roundedBy operation binary32 d a b ≡ Value x → member binary32 x ≡ true
 result-member Sum d a b e = sum-member binary32-limits d a b e

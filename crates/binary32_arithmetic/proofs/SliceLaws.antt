@@ -13,7 +13,8 @@ use lib.ListN.{length, getD, length-map, List·getD-map, List·getD-eq-default}
 use borrow.Author.Tests.{leb-true, leb-false, eqb-true, eq-eqb}
 use Rattle.theory.specs.Tests.{_and_, unless}
 use Rattle.theory.specs.Lists.{firstWhere}
-use Rattle.theory.specs.Round.{Direction, round}
+use Rattle.theory.specs.Round.{round}
+use Rattle.theory.specs.declared.Direction.{Direction}
 use Rattle.theory.specs.Signed.{is-negative}
 use Rattle.theory.proofs.Tests.{never, and-left, and-right, and-made}
 use Rattle.theory.proofs.Lists.{first-before, first-passes}
@@ -23,7 +24,7 @@ use Rattle.format.specs.Directions.{isDirection, direction}
 use Rattle.format.specs.Published.{binary32}
 use Rattle.number.specs.declared.Answer.the-variants as refusing
 use Rattle.number.specs.Numbers.{value, greatest, number, delivered}
-use Rattle.prepared_arithmetic.specs.Operations.{rounded, roundedZ, roundedSum}
+use Rattle.arithmetic.specs.Operations.{rounded, roundedZ, roundedSum}
 use Rattle.binary32.specs.declared.Pattern.{Pattern}
 use Rattle.binary32.specs.declared.Pattern.the-variants as pattern
 use Rattle.binary32.specs.Patterns.{finite, numberRead, answerWritten}

@@ -6,7 +6,7 @@ use mathlib.Core.Logic.{inl}
 use native.Mathlib.Omega.{arith}
 use lib.IntN.{ℤ, pos, negℤ, natAbs, _+ℤ_, _-ℤ_, _*ℤ_}
 use lib.Signed.{leZ}
-use Rattle.theory.specs.Round.{nearest-even}
+use Rattle.theory.specs.declared.Direction.the-variants.{NearestEven}
 use Rattle.theory.specs.Signed.{roundZ}
 use Rattle.theory.specs.FastTwoSum.{Triple}
 use Rattle.theory.proofs.Integers.{above, below, sum-parts, diff-parts, neg-above, neg-below, negate-signed, size-signed, le-parts, parts-eq, parts-scale-le, scale-above, scale-below}
@@ -14,7 +14,6 @@ use Rattle.theory.proofs.Round.{to-even}
 use Rattle.theory.proofs.Signed.{roundZ-mono}
 use Rattle.theory.proofs.FastTwoSum.{nearest-exact, rounded-triple}
 use Rattle.theory.proofs.Tests.{denied, granted}
-use Rattle.format.specs.declared.Direction.the-variants.{NearestEven}
 use Rattle.format.proofs.Signed.{Upto, le-true, le-false}
 use Rattle.wide.specs.declared.Wide.{Wide}
 use Rattle.wide.specs.Operand.{sizeOf, valueOf}
@@ -27,7 +26,7 @@ use Rattle.binary32_arithmetic.specs.Exact.{Placed, turned, zeroWide, Sp
 use Rattle.binary32_arithmetic.proofs.ExactSums.{binary-24, value-wide, placed-more, sum-placed}
 
 -- ---- a sum to nearest
-near-value : (x y : Wide) → valueOf 2 (summed 2 24 NearestEven x y) ≡ roundZ 2 24 nearest-even (valueOf 2 x +ℤ valueOf 2 y) 1
+near-value : (x y : Wide) → valueOf 2 (summed 2 24 NearestEven x y) ≡ roundZ 2 24 NearestEven (valueOf 2 x +ℤ valueOf 2 y) 1
 near-value x y = summed-value binary-24 NearestEven x y
 
 turned-here : {k : ℕ} (c : Wide) → Placed k c → {m : Wide} → m ≡ turned c → Placed k m
@@ -67,24 +66,24 @@ module _ (a b : Wide) (ha : Placed 253 a) (hb : Placed 253 b) {x : Wide} (ex : x
           y-placed : Placed 256 y
           y-placed = rw ey (sum-placed NearestEven b w (placed-more 255 (omega arith) hb) w-placed)
 
-          x-is : valueOf 2 x ≡ roundZ 2 24 nearest-even (valueOf 2 a +ℤ valueOf 2 b) 1
+          x-is : valueOf 2 x ≡ roundZ 2 24 NearestEven (valueOf 2 a +ℤ valueOf 2 b) 1
           x-is = ap (valueOf 2) ex ∙ near-value a b
 
-          z-is : valueOf 2 z ≡ roundZ 2 24 nearest-even (valueOf 2 x -ℤ valueOf 2 a) 1
+          z-is : valueOf 2 z ≡ roundZ 2 24 NearestEven (valueOf 2 x -ℤ valueOf 2 a) 1
           z-is =
               ap (valueOf 2) ez
               ∙ near-value x m
-              ∙ ap (λ (v : ℤ). roundZ 2 24 nearest-even v 1) (less (valueOf 2 x) (valueOf 2 a) (minus a em))
+              ∙ ap (λ (v : ℤ). roundZ 2 24 NearestEven v 1) (less (valueOf 2 x) (valueOf 2 a) (minus a em))
 
-          y-is : valueOf 2 y ≡ roundZ 2 24 nearest-even (valueOf 2 b -ℤ valueOf 2 z) 1
+          y-is : valueOf 2 y ≡ roundZ 2 24 NearestEven (valueOf 2 b -ℤ valueOf 2 z) 1
           y-is =
               ap (valueOf 2) ey
               ∙ near-value b w
-              ∙ ap (λ (v : ℤ). roundZ 2 24 nearest-even v 1) (less (valueOf 2 b) (valueOf 2 z) (minus z ew))
+              ∙ ap (λ (v : ℤ). roundZ 2 24 NearestEven v 1) (less (valueOf 2 b) (valueOf 2 z) (minus z ew))
 
           triple : Triple 24 (valueOf 2 a) (valueOf 2 b) (valueOf 2 x) (valueOf 2 z) (valueOf 2 y)
           triple =
-              rounded-triple binary-24 nearest-even nearest-even nearest-even (valueOf 2 a) (valueOf 2 b) (value-wide ha) (value-wide hb) order x-is z-is y-is
+              rounded-triple binary-24 NearestEven NearestEven NearestEven (valueOf 2 a) (valueOf 2 b) (value-wide ha) (value-wide hb) order x-is z-is y-is
 
           pub split-made : Splits (valueOf 2 a +ℤ valueOf 2 b) (record { high = x; low = y })
           split-made =
@@ -148,9 +147,9 @@ by-parts N M h l i j e f up down = by (leZ h i) (leZ i h) (leZ l j) (leZ N M) re
     by true true false true hp hq hs ht =
         absurd (omega (arith, le-true h i hp, le-true i h hq, le-false l j hs, le-true N M ht, sum-parts h l, sum-parts i j, ap above e, ap below e, ap above f, ap below f))
 
-nearer : (N M : ℤ) → Upto N M → Upto (roundZ 2 24 nearest-even N 1) (roundZ 2 24 nearest-even M 1)
+nearer : (N M : ℤ) → Upto N M → Upto (roundZ 2 24 NearestEven N 1) (roundZ 2 24 NearestEven M 1)
 nearer N M l =
-    le-parts (roundZ-mono binary-24 nearest-even N M (omega arith) (omega arith) (parts-scale-le N 1 (M *ℤ pos 1) (omega (arith, scale-above M 1, scale-below M 1))))
+    le-parts (roundZ-mono binary-24 NearestEven N M (omega arith) (omega arith) (parts-scale-le N 1 (M *ℤ pos 1) (omega (arith, scale-above M 1, scale-below M 1))))
 
 module _ {N M : ℤ} {a b : Parts} (s : Splits N a) (t : Splits M b) where
   pub split-order : splitUpto a b ≡ leZ N M

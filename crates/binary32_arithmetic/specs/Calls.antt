@@ -1,14 +1,14 @@
 -- The four operations on binary32 patterns: the direction (2), the patterns (9), then the operation of format 2 (4, 5), written.
 use Prim.Native.Nat.{ℕ}
 use Rattle.theory.specs.Tests.{_and_, unless}
-use Rattle.theory.specs.Round.{Direction}
+use Rattle.theory.specs.declared.Direction.{Direction}
 use Rattle.format.specs.declared.Format.{Format}
 use Rattle.format.specs.declared.Refusal.the-variants.{NoSuchDirection, NotFinite}
 use Rattle.format.specs.Directions.{isDirection, direction}
 use Rattle.format.specs.Published.{binary32}
 use Rattle.number.specs.declared.Number.{Number}
 use Rattle.number.specs.declared.Answer.{Answer}
-use Rattle.prepared_arithmetic.specs.Operations.{roundedSum, roundedDifference, roundedProduct, roundedQuotient}
+use Rattle.arithmetic.specs.Operations.{roundedSum, roundedDifference, roundedProduct, roundedQuotient}
 use Rattle.binary32.specs.declared.Pattern.{Pattern}
 use Rattle.binary32.specs.declared.Pattern.the-variants as pattern
 use Rattle.binary32.specs.Patterns.{finite, numberRead, answerWritten}

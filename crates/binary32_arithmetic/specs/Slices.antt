@@ -6,7 +6,7 @@ use lib.Dec.{eqb}
 use lib.ListN.{length, getD}
 use Rattle.theory.specs.Tests.{_and_, unless}
 use Rattle.theory.specs.Lists.{firstWhere}
-use Rattle.theory.specs.Round.{Direction}
+use Rattle.theory.specs.declared.Direction.{Direction}
 use Rattle.format.specs.declared.Verdict.{Verdict}
 use Rattle.format.specs.declared.Verdict.the-variants as verdict
 use Rattle.format.specs.declared.Refusal.the-variants.{NoSuchDirection, LengthsDiffer}

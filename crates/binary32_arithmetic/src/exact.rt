@@ -1,17 +1,17 @@
 // Exact comparisons of sums. A sum and a number: by sums that are rounded down in the wide format, since a sum rounded down is at least
 // a number of the format exactly where the sum is. Two sums: by three-step sums to nearest, which leave no error.
 use crate::Parts;
+use arithmetic::operands::wide_of;
 use binary32::patterns::read_finite;
 use binary32::prepared::prepared_binary32;
-use format::Direction;
 use format::Scale;
-use prepared_arithmetic::operands::wide_of;
+use theory::Direction;
 use wide::Wide;
 ghost use mathlib.Core.Path.{_≡_};
 ghost use mathlib.Core.Bool.{true};
 ghost use lib.IntN.{_+ℤ_, natAbs};
 ghost use lib.Signed.{leZ, ltZ};
-ghost use Rattle.format.specs.declared.Direction.the-variants.{Downward, NearestEven};
+ghost use Rattle.theory.specs.declared.Direction.the-variants.{NearestEven, Downward};
 ghost use Prim.Native.Nat.{_≤_};
 ghost use Rattle.format.specs.Formats.{scaleOf};
 ghost use Rattle.format.specs.Published.{binary32};
@@ -37,7 +37,7 @@ fn sum_down(x: Wide, y: Wide) -> Wide
     requires { ⌜ Placed 300 x × Placed 300 y ⌝ }
     ensures { λ r. ⌜ r ≡ summed 2 24 Downward x y ⌝ }
 {
-    wide_sum::sum(binary32_scale(), Direction::Downward, x, y)
+    wide::sum::sum(binary32_scale(), Direction::Downward, x, y)
 }
 
 // The number of a finite pattern, in the wide format.
@@ -125,7 +125,7 @@ fn sum_nearest(x: Wide, y: Wide) -> Wide
     requires { ⌜ Placed 300 x × Placed 300 y ⌝ }
     ensures { λ r. ⌜ r ≡ summed 2 24 NearestEven x y ⌝ }
 {
-    wide_sum::sum(binary32_scale(), Direction::NearestEven, x, y)
+    wide::sum::sum(binary32_scale(), Direction::NearestEven, x, y)
 }
 
 // a + b in three steps, where b is not greater than a in magnitude.

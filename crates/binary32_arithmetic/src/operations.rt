@@ -3,21 +3,20 @@ use crate::Operands;
 use crate::Operation;
 use crate::entry::read_two;
 use crate::entry::write_answer;
+use arithmetic::product::multiply;
+use arithmetic::quotient::divide;
+use arithmetic::sum::add;
+use arithmetic::sum::subtract;
 use binary32::Pattern;
 use binary32::prepared::prepared_binary32;
-use format::Direction;
 use format::Refusal;
 use format::directions::direction_of;
 use format::directions::is_direction;
 use number::Answer;
 use number::Number;
-use prepared_arithmetic::product::multiply;
-use prepared_arithmetic::quotient::divide;
-use prepared_arithmetic::sum::add;
-use prepared_arithmetic::sum::subtract;
+use theory::Direction;
 ghost use mathlib.Core.Path.{_≡_};
 ghost use mathlib.Core.Bool.{true};
-ghost use Rattle.format.specs.Directions.{sense};
 ghost use Rattle.format.specs.Published.{binary32};
 ghost use Rattle.number.specs.Numbers.{member};
 ghost use Rattle.binary32_arithmetic.specs.Calls.{roundedBy, onPatterns, patternCall};
@@ -26,7 +25,7 @@ ghost use Rattle.binary32_arithmetic.specs.declared.Operation.the-varian
 // The operation on two numbers of format 2. Refuses 4, 5.
 fn operate(operation: Operation, direction: Direction, a: Number, b: Number) -> Answer
     requires { ⌜ (member binary32 a ≡ true) × (member binary32 b ≡ true) ⌝ }
-    ensures { λ r. ⌜ r ≡ roundedBy operation binary32 (sense direction) a b ⌝ }
+    ensures { λ r. ⌜ r ≡ roundedBy operation binary32 direction a b ⌝ }
 {
     let prepared = prepared_binary32();
     match operation {
@@ -39,7 +38,7 @@ fn operate(operation: Operation, direction: Direction, a: Number, b: Number) -> 
 
 // The operation on two patterns. Refuses 9, 4, 5.
 pub fn operate_on_patterns(operation: Operation, direction: Direction, a: u32, b: u32) -> Pattern
-    ensures { λ r. ⌜ r ≡ onPatterns operation (sense direction) a b ⌝ }
+    ensures { λ r. ⌜ r ≡ onPatterns operation direction a b ⌝ }
 {
     match read_two(a, b) {
         Operands::Refused(why) => Pattern::Refused(why),

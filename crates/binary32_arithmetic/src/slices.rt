@@ -3,18 +3,17 @@ use crate::Operation;
 use crate::SliceAnswer;
 use crate::operations::operate_on_patterns;
 use binary32::Pattern;
-use format::Direction;
 use format::Refusal;
 use format::Verdict;
 use format::directions::direction_of;
 use format::directions::is_direction;
+use theory::Direction;
 ghost use mathlib.Core.Path.{_≡_};
 ghost use Prim.Native.Nat.{_*_, _%_, _^_};
 ghost use lib.Dec.{ltb};
 ghost use lib.ListN.{length};
 ghost use Rattle.theory.specs.Tests.{_and_};
 ghost use Rattle.format.specs.Directions as directions;
-ghost use Rattle.format.specs.Directions.{sense};
 ghost use Rattle.binary32_arithmetic.specs.Calls.{onPatterns};
 ghost use Rattle.binary32_arithmetic.specs.declared.Operation.the-variants.{Sum};
 ghost use Rattle.binary32_arithmetic.specs.Slices.{verdictOf, written, entries, firstRefused, sums, slicesAnswer, slicesWritten};
@@ -37,7 +36,7 @@ fn are_halves(a: u32, b: u32) -> bool
 
 // Is an entry refused? Two magnitudes of at most half the greatest number are not.
 fn examine(direction: Direction, a: u32, b: u32) -> Verdict
-    ensures { λ r. ⌜ r ≡ verdictOf (onPatterns Sum (sense direction) a b) ⌝ }
+    ensures { λ r. ⌜ r ≡ verdictOf (onPatterns Sum direction a b) ⌝ }
 {
     if are_halves(a, b) {
         return Verdict::Passed;
@@ -60,7 +59,7 @@ fn written_or_zero(pattern: Pattern) -> u32
 // The first pass.
 fn first_refused(direction: Direction, a: &[u32], b: &[u32]) -> SliceAnswer
     requires { ⌜ length (now a) ≡ length (now b) ⌝ }
-    ensures { λ r. ⌜ r ≡ firstRefused (entries (sense direction) (now (a .entry)) (now (b .entry))) ⌝ }
+    ensures { λ r. ⌜ r ≡ firstRefused (entries direction (now (a .entry)) (now (b .entry))) ⌝ }
 {
     let mut i = 0;
     while i < a.len() {
@@ -76,7 +75,7 @@ fn first_refused(direction: Direction, a: &[u32], b: &[u32]) -> SliceAnswer
 fn write_sums(direction: Direction, a: &[u32], b: &[u32], out: &mut [u32])
     requires { ⌜ length (now a) ≡ length (now b) ⌝ }
     requires { ⌜ length (now a) ≡ length (now out) ⌝ }
-    ensures { λ _. ⌜ now (out .exit) ≡ sums (sense direction) (now (a .entry)) (now (b .entry)) ⌝ }
+    ensures { λ _. ⌜ now (out .exit) ≡ sums direction (now (a .entry)) (now (b .entry)) ⌝ }
 {
     let mut done = 0;
     while done < a.len() {

@@ -8,7 +8,7 @@ use lib.ListN.{length}
 use borrow.Author.Tests.{le-leb, lt-leb, eq-eqb, ne-eqb}
 use Rattle.theory.specs.Tests.{_and_}
 use Rattle.theory.specs.Lists.{firstWhere, none}
-use Rattle.theory.specs.Round.{Direction}
+use Rattle.theory.specs.declared.Direction.{Direction}
 use Rattle.theory.proofs.Tests.{and-made, unless-passed, unless-failed}
 use Rattle.format.specs.Given.{Given, gives, refused, refusedAt}
 use Rattle.format.specs.Directions.{isDirection, direction}

@@ -10,7 +10,7 @@ use lib.IntN.{ℤ, natAbs}
 use lib.ListN.{length}
 use borrow.Author.Tests.{leb-true, ltb-true}
 use Rattle.theory.specs.Lists.{all}
-use Rattle.theory.specs.Round.{Direction}
+use Rattle.theory.specs.declared.Direction.{Direction}
 use Rattle.theory.specs.Wide.{Wide}
 use Rattle.theory.specs.Signed.{is-negative, roundZ}
 use Rattle.theory.proofs.Tests.{and-left, and-right}

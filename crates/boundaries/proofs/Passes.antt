@@ -6,7 +6,7 @@ use native.Mathlib.Numerals.{add-one, one-add}
 use native.Mathlib.Omega.{arith}
 use lib.ListN.{length, getD, take, drop, set, length-take}
 use lib.Seq.{drop-cons, drop-length, take-suc-set, take-all}
-use Rattle.theory.specs.Round.{Direction}
+use Rattle.theory.specs.declared.Direction.{Direction}
 use Rattle.boundaries.specs.declared.Step.{Step}
 use Rattle.boundaries.specs.declared.StepAnswer.{StepAnswer}
 use Rattle.boundaries.specs.declared.StepAnswer.the-variants as step

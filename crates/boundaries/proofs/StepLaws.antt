@@ -9,7 +9,8 @@ use native.Mathlib.Omega.{arith}
 use lib.Dec.{leb}
 use lib.IntN.{ℤ, natAbs, _+ℤ_, _-ℤ_, +ℤ-comm}
 use borrow.Author.Tests.{leb-true, leb-false, le-leb, lt-leb}
-use Rattle.theory.specs.Round.{Direction, nearest-even, nearest-away, toward-zero, upward, downward}
+use Rattle.theory.specs.declared.Direction.{Direction}
+use Rattle.theory.specs.declared.Direction.the-variants.{NearestEven, NearestAway, TowardZero, Upward, Downward}
 use Rattle.theory.specs.Signed.{roundZ}
 use Rattle.theory.proofs.Round.{Nearest}
 use Rattle.format.specs.declared.Format.{Format}
@@ -24,7 +25,7 @@ use Rattle.number.specs.declared.Ordered.the-variants.{Less, Equal, Greater}
 use Rattle.number.specs.Numbers.{member, magnitude, value, greatest}
 use Rattle.number.specs.Order.{orderN}
 use Rattle.number.proofs.Comparison.{size-less-says, size-equal-says, size-greater-says}
-use Rattle.prepared_arithmetic.specs.Operations.{roundedZ, roundedSum}
+use Rattle.arithmetic.specs.Operations.{roundedZ, roundedSum}
 use Rattle.fast_two_sum.specs.declared.Steps.{Steps}
 use Rattle.fast_two_sum.specs.declared.StepsAnswer.{StepsAnswer}
 use Rattle.fast_two_sum.specs.declared.StepsAnswer.the-variants as three
@@ -32,7 +33,7 @@ use Rattle.fast_two_sum.specs.Triples.{Summands}
 use Rattle.fast_two_sum.specs.Calls.{threeSteps, fastTwoSum}
 use Rattle.fast_two_sum.proofs.Bounds.{bound, value-size}
 use Rattle.fast_two_sum.proofs.Entered.{Directed}
-use Rattle.fast_two_sum_check.proofs.Demand.{Hands, passes, sum-cases, nearest-sum-exact}
+use Rattle.fast_two_sum.proofs.Demand.{Hands, passes, sum-cases, nearest-sum-exact}
 use Rattle.binary32.specs.declared.Pattern.the-variants as pattern
 use Rattle.binary32.specs.Patterns.{finite, patternValue, numberRead, patternOf, answerWritten}
 use Rattle.binary32.proofs.Fields.{binary32-limits}
@@ -53,11 +54,11 @@ record Numbered (d : Direction) : Type 0 where
 -- each direction has a number
 numbered : (d : Direction) → Numbered d
 unfolding isDirection direction
-numbered nearest-even = record { number = 0; known = refl; is = refl }
-numbered nearest-away = record { number = 1; known = refl; is = refl }
-numbered toward-zero = record { number = 2; known = refl; is = refl }
-numbered upward = record { number = 3; known = refl; is = refl }
-numbered downward = record { number = 4; known = refl; is = refl }
+numbered NearestEven = record { number = 0; known = refl; is = refl }
+numbered NearestAway = record { number = 1; known = refl; is = refl }
+numbered TowardZero = record { number = 2; known = refl; is = refl }
+numbered Upward = record { number = 3; known = refl; is = refl }
+numbered Downward = record { number = 4; known = refl; is = refl }
 
 -- ---- two numbers
 -- three steps from two numbers whose exact sum is v gave x and y

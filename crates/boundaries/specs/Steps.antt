@@ -6,9 +6,9 @@ use mathlib.Core.List.{List}
 use lib.Dec.{ltb}
 use lib.ListN.{length}
 use Rattle.theory.specs.Lists.{none}
-use Rattle.theory.specs.Round.{Direction}
+use Rattle.theory.specs.declared.Direction.{Direction}
 use Rattle.format.specs.Published.{binary32}
-use Rattle.prepared_arithmetic.specs.Operations.{roundedSum}
+use Rattle.arithmetic.specs.Operations.{roundedSum}
 use Rattle.binary32.specs.declared.Pattern.{Pattern}
 use Rattle.binary32.specs.Patterns.{notFinite, numberRead, answerWritten}
 

@@ -6,7 +6,7 @@ use lib.Dec.{leb, eqb}
 use lib.ListN.{length}
 use Rattle.theory.specs.Tests.{_and_, unless}
 use Rattle.theory.specs.Lists.{firstWhere, none}
-use Rattle.theory.specs.Round.{Direction}
+use Rattle.theory.specs.declared.Direction.{Direction}
 use Rattle.format.specs.Given.{Given, gives, refused, refusedAt}
 use Rattle.format.specs.Refusals.{refusalNumber}
 use Rattle.format.specs.Directions.{isDirection, direction}

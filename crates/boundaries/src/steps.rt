@@ -1,6 +1,7 @@
 // One step: a strip is added to the running sum. Both are finite and the format is prepared, so nothing is examined again.
 use crate::Step;
 use crate::StepAnswer;
+use arithmetic::sum::add;
 use binary32::Pattern;
 use binary32::patterns::pattern_of;
 use binary32::patterns::read_finite;
@@ -8,14 +9,12 @@ use binary32::prepared::prepared_binary32;
 use binary32_arithmetic::entry::write_answer;
 use fast_two_sum::StepsAnswer;
 use fast_two_sum::sum::three_steps;
-use format::Direction;
 use number::Number;
 use number::Ordered;
 use number::order::compare_magnitudes;
-use prepared_arithmetic::sum::add;
+use theory::Direction;
 ghost use mathlib.Core.Path.{_≡_};
 ghost use mathlib.Core.Bool.{true};
-ghost use Rattle.format.specs.Directions.{sense};
 ghost use Rattle.format.specs.Published.{binary32};
 ghost use Rattle.number.specs.Numbers.{member};
 ghost use Rattle.binary32.specs.Patterns.{finite};
@@ -25,7 +24,7 @@ ghost use Rattle.boundaries.specs.Steps.{firstStep};
 // x + s in three steps: the larger magnitude first, x first at equality.
 fn three_sum(direction: Direction, x: Number, s: Number) -> StepsAnswer
     requires { ⌜ (member binary32 x ≡ true) × (member binary32 s ≡ true) ⌝ }
-    ensures { λ r. ⌜ r ≡ threeSum (sense direction) x s ⌝ }
+    ensures { λ r. ⌜ r ≡ threeSum direction x s ⌝ }
 {
     let prepared = prepared_binary32();
     match compare_magnitudes(prepared.format, x, s) {
@@ -39,7 +38,7 @@ fn three_sum(direction: Direction, x: Number, s: Number) -> StepsAnswer
 // The strip added to the running sum x.
 pub fn add_strip(direction: Direction, x: u32, strip: u32) -> StepAnswer
     requires { ⌜ (finite x ≡ true) × (finite strip ≡ true) ⌝ }
-    ensures { λ r. ⌜ r ≡ stripAdded (sense direction) x strip ⌝ }
+    ensures { λ r. ⌜ r ≡ stripAdded direction x strip ⌝ }
 {
     match three_sum(direction, read_finite(x), read_finite(strip)) {
         StepsAnswer::Refused(_) => StepAnswer::TooLarge,
@@ -57,7 +56,7 @@ pub fn add_strip(direction: Direction, x: u32, strip: u32) -> StepAnswer
 // x of that step alone: the first of the three steps, the only one that may be too large.
 pub fn add_first(direction: Direction, x: u32, strip: u32) -> Pattern
     requires { ⌜ (finite x ≡ true) × (finite strip ≡ true) ⌝ }
-    ensures { λ r. ⌜ r ≡ firstStep (sense direction) x strip ⌝ }
+    ensures { λ r. ⌜ r ≡ firstStep direction x strip ⌝ }
 {
     write_answer(add(
         prepared_binary32(),

@@ -7,21 +7,20 @@ use crate::steps::add_first;
 use crate::steps::add_strip;
 use binary32::Pattern;
 use binary32::finite::first_not_finite;
-use format::Direction;
 use format::Refusal;
 use format::directions::direction_of;
 use format::directions::is_direction;
+use theory::Direction;
 ghost use mathlib.Core.Path.{_≡_};
 ghost use Prim.Native.Nat.{suc};
 ghost use lib.ListN.{length};
-ghost use Rattle.format.specs.Directions.{sense};
 ghost use Rattle.boundaries.specs.Steps.{Summable};
 ghost use Rattle.boundaries.specs.Sums.{boundarySteps, lastX, restsOf, firstOf, given, boundaryAnswer, boundaryRests};
 
 // The index of the strip that makes the sum too large, or the number of strips. Small strips are not added here.
 fn first_too_large(direction: Direction, strips: &[u32]) -> usize
     requires { ⌜ Summable (now strips) ⌝ }
-    ensures { λ r. ⌜ r ≡ suc (length (boundarySteps (sense direction) (now (strips .entry)))) ⌝ }
+    ensures { λ r. ⌜ r ≡ suc (length (boundarySteps direction (now (strips .entry)))) ⌝ }
 {
     if are_small(strips) {
         return strips.len();
@@ -41,9 +40,9 @@ fn first_too_large(direction: Direction, strips: &[u32]) -> usize
 // The last x, and each y into `rests`, where no strip makes the sum too large.
 fn write_rests(direction: Direction, strips: &[u32], rests: &mut [u32]) -> u32
     requires { ⌜ Summable (now strips) ⌝ }
-    requires { ⌜ (suc (length (now rests)) ≡ length (now strips)) × (length (boundarySteps (sense direction) (now strips)) ≡ length (now rests)) ⌝ }
-    ensures sum { λ r. ⌜ r ≡ lastX (firstOf (now (strips .entry))) (boundarySteps (sense direction) (now (strips .entry))) ⌝ }
-    ensures written { λ _. ⌜ now (rests .exit) ≡ restsOf (boundarySteps (sense direction) (now (strips .entry))) ⌝ }
+    requires { ⌜ (suc (length (now rests)) ≡ length (now strips)) × (length (boundarySteps direction (now strips)) ≡ length (now rests)) ⌝ }
+    ensures sum { λ r. ⌜ r ≡ lastX (firstOf (now (strips .entry))) (boundarySteps direction (now (strips .entry))) ⌝ }
+    ensures written { λ _. ⌜ now (rests .exit) ≡ restsOf (boundarySteps direction (now (strips .entry))) ⌝ }
 {
     let mut x = strips[0];
     let mut done = 0;

@@ -1,10 +1,10 @@
 // Saved lines, for C.
-use c_answers::PositionAnswer;
-use c_answers::ReachAnswer;
-use c_answers::RowAnswer;
-use c_answers::position_out;
-use c_answers::reach_out;
-use c_answers::row_out;
+use crate::answers::PositionAnswer;
+use crate::answers::ReachAnswer;
+use crate::answers::RowAnswer;
+use crate::answers::position_out;
+use crate::answers::reach_out;
+use crate::answers::row_out;
 use saved_lines::nearest::nearest_line;
 use saved_lines::reach::lines_within;
 use saved_lines::row::nearest_lines;
@@ -12,7 +12,7 @@ ghost use mathlib.Core.Path.{_≡_};
 ghost use lib.ListN.{length};
 ghost use Rattle.saved_lines.specs.Lines.{nearestLine, linesInOrder, linesWithin, withinWritten};
 ghost use Rattle.saved_lines.specs.Rows.{nearestLines, rowWritten};
-ghost use Rattle.c_answers.specs.Answers.{positionOut, reachOut, rowOut};
+ghost use Rattle.c_api.specs.Answers.{positionOut, reachOut, rowOut};
 
 // The position of the saved offset nearest to the query. Refuses 12, 9 (in the list with its index), 13, 15.
 #[no_mangle]

@@ -1,16 +1,16 @@
 // Formats, numbers, places, neighbours and operations, for C.
+use crate::answers::NumberAnswer;
+use crate::answers::OrderAnswer;
+use crate::answers::PublishedAnswer;
+use crate::answers::number_out;
+use crate::answers::order_out;
+use crate::answers::published_out;
+use crate::answers::verdict_out;
 use arithmetic::fraction::fraction;
 use arithmetic::product::product;
 use arithmetic::quotient::quotient;
 use arithmetic::sum::difference;
 use arithmetic::sum::sum;
-use c_answers::NumberAnswer;
-use c_answers::OrderAnswer;
-use c_answers::PublishedAnswer;
-use c_answers::number_out;
-use c_answers::order_out;
-use c_answers::published_out;
-use c_answers::verdict_out;
 use format::Format;
 use format::admission::check_format;
 use format::published::published;
@@ -33,8 +33,8 @@ ghost use Rattle.number.specs.Order.{compared};
 ghost use Rattle.number.specs.Signs.{negated, unsigned};
 ghost use Rattle.units.specs.Places.{firstPlace, lastPlace, leastPlace};
 ghost use Rattle.units.specs.Neighbours.{predecessorOf, successorOf};
-ghost use Rattle.prepared_arithmetic.specs.Operations.{summed, subtracted, multiplied, divided, fractioned};
-ghost use Rattle.c_answers.specs.Answers.{numberOut, orderOut, publishedOut, verdictOut};
+ghost use Rattle.arithmetic.specs.Operations.{summed, subtracted, multiplied, divided, fractioned};
+ghost use Rattle.c_api.specs.Answers.{numberOut, orderOut, publishedOut, verdictOut};
 
 // 0 if the format is admitted, else 1.
 #[no_mangle]

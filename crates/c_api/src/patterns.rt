@@ -1,5 +1,10 @@
 // binary32 patterns and the sum of slices, for C. The pattern calls answer a 64-bit number: the refusal in the upper half, the
 // pattern in the lower.
+use crate::answers::NumberAnswer;
+use crate::answers::SlicesAnswer;
+use crate::answers::number_out;
+use crate::answers::pattern_out;
+use crate::answers::slices_out;
 use binary32::patterns::read_pattern;
 use binary32::patterns::write_pattern;
 use binary32_arithmetic::operations::pattern_difference;
@@ -7,11 +12,6 @@ use binary32_arithmetic::operations::pattern_product;
 use binary32_arithmetic::operations::pattern_quotient;
 use binary32_arithmetic::operations::pattern_sum;
 use binary32_arithmetic::slices::sum_slices;
-use c_answers::NumberAnswer;
-use c_answers::SlicesAnswer;
-use c_answers::number_out;
-use c_answers::pattern_out;
-use c_answers::slices_out;
 use number::Number;
 ghost use mathlib.Core.Path.{_≡_};
 ghost use Rattle.format.specs.Directions as directions;
@@ -19,7 +19,7 @@ ghost use Rattle.binary32.specs.Patterns.{patternRead, patternWritten};
 ghost use Rattle.binary32_arithmetic.specs.Calls.{patternCall};
 ghost use Rattle.binary32_arithmetic.specs.declared.Operation.the-variants.{Sum, Difference, Product, Quotient};
 ghost use Rattle.binary32_arithmetic.specs.Slices.{sums, slicesAnswer, slicesWritten};
-ghost use Rattle.c_answers.specs.Answers.{numberOut, patternOut, slicesOut};
+ghost use Rattle.c_api.specs.Answers.{numberOut, patternOut, slicesOut};
 
 // The number of a pattern. Refuses 9.
 #[no_mangle]

@@ -1,6 +1,6 @@
 // Rump's routes, for C.
-use c_answers::NumberAnswer;
-use c_answers::number_out;
+use crate::answers::NumberAnswer;
+use crate::answers::number_out;
 use format::Format;
 use number::Number;
 use rump::routes::ufp_toward_zero;
@@ -9,7 +9,7 @@ use rump::routes::ulp_toward_zero_unbranched;
 use rump::routes::ulp_upward;
 ghost use mathlib.Core.Path.{_≡_};
 ghost use Rattle.rump.specs.Routes.{ufpTowardZero, ulpUpward, ulpTowardZero, ulpUnbranched};
-ghost use Rattle.c_answers.specs.Answers.{numberOut};
+ghost use Rattle.c_api.specs.Answers.{numberOut};
 
 // The first place by figure 1. Refuses 1, 3, 8.
 #[no_mangle]

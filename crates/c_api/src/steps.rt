@@ -1,16 +1,16 @@
 // The three-step sum and its check, for C.
-use c_answers::CheckAnswer;
-use c_answers::TripleAnswer;
-use c_answers::check_out;
-use c_answers::steps_out;
+use crate::answers::CheckAnswer;
+use crate::answers::TripleAnswer;
+use crate::answers::check_out;
+use crate::answers::steps_out;
+use fast_two_sum::check::is_fast_two_sum;
 use fast_two_sum::sum::fast_two_sum;
-use fast_two_sum_check::check::is_fast_two_sum;
 use format::Format;
 use number::Number;
 ghost use mathlib.Core.Path.{_≡_};
 ghost use Rattle.fast_two_sum.specs.Calls.{fastTwoSum};
-ghost use Rattle.fast_two_sum_check.specs.Calls.{checkedTriple};
-ghost use Rattle.c_answers.specs.Answers.{checkOut, stepsOut};
+ghost use Rattle.fast_two_sum.specs.Checks.{checkedTriple};
+ghost use Rattle.c_api.specs.Answers.{checkOut, stepsOut};
 
 // a + b in three steps. Refuses 1, 2, 3, 6, 7, 5.
 #[no_mangle]

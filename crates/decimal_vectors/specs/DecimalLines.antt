@@ -17,7 +17,7 @@ use Rattle.number.specs.Signs.{negated, unsigned}
 use Rattle.number.specs.Order.{compared}
 use Rattle.units.specs.Neighbours.{predecessorOf, successorOf}
 use Rattle.units.specs.Places.{firstPlace}
-use Rattle.prepared_arithmetic.specs.Operations.{summed, subtracted, multiplied, divided, fractioned}
+use Rattle.arithmetic.specs.Operations.{summed, subtracted, multiplied, divided, fractioned}
 use Rattle.vector_words.specs.declared.Operation.{Operation}
 use Rattle.vector_words.specs.declared.Operation.the-variants.{Sum, Difference, Product, Quotient}
 use Rattle.vector_words.specs.declared.UnaryOperation.{UnaryOperation}

@@ -17,7 +17,7 @@ use Rattle.number.specs.Numbers.{equalZ, normal, small, isZero, member, magnitu
 use Rattle.number.specs.Entry.{entry, after}
 use Rattle.units.specs.Places.{firstPlace, lastPlace, leastPlace}
 use Rattle.units.specs.Neighbours.{predecessorOf, successorOf}
-use Rattle.prepared_arithmetic.specs.Operations.{rounded, roundedZ, roundedProduct, roundedQuotient, summed, divided}
+use Rattle.arithmetic.specs.Operations.{rounded, roundedZ, roundedProduct, roundedQuotient, summed, divided}
 use Rattle.rump.specs.Premises.{premise, firstPremise}
 use Rattle.rump.specs.Figures.{both, belowOne, scaledUp, figure1}
 use Rattle.rump.specs.Routes.{route}

@@ -10,7 +10,7 @@ use Rattle.number.specs.declared.Answer.{Answer}
 use Rattle.number.specs.declared.Answer.the-variants as answer
 use Rattle.units.specs.Places.{firstPlace, lastPlace, leastPlace}
 use Rattle.units.specs.Neighbours.{predecessorOf, successorOf}
-use Rattle.prepared_arithmetic.specs.Operations.{summed, divided}
+use Rattle.arithmetic.specs.Operations.{summed, divided}
 use Rattle.rump.specs.Routes.{ufpTowardZero}
 use Rattle.fast_two_sum.specs.declared.StepsAnswer.{StepsAnswer}
 use Rattle.fast_two_sum.specs.declared.StepsAnswer.the-variants as steps

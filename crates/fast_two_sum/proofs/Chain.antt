@@ -1,12 +1,12 @@
 -- The three steps taken one after the other: they end at the first that refuses.
 use mathlib.Core.Path.{_≡_, sym, ap, _∙_}
-use Rattle.theory.specs.Round.{Direction}
+use Rattle.theory.specs.declared.Direction.{Direction}
 use Rattle.format.specs.declared.Format.{Format}
 use Rattle.format.specs.declared.Refusal.{Refusal}
 use Rattle.number.specs.declared.Number.{Number}
 use Rattle.number.specs.declared.Answer.{Answer}
 use Rattle.number.specs.declared.Answer.the-variants.{Value, Refused}
-use Rattle.prepared_arithmetic.specs.Operations.{roundedSum, roundedDifference}
+use Rattle.arithmetic.specs.Operations.{roundedSum, roundedDifference}
 use Rattle.fast_two_sum.specs.declared.Steps.{Steps}
 use Rattle.fast_two_sum.specs.declared.StepsAnswer.{StepsAnswer}
 use Rattle.fast_two_sum.specs.declared.StepsAnswer.the-variants as steps

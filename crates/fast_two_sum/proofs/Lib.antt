@@ -1,6 +1,9 @@
--- Demand 3, and laws of the three-step sum.
+-- Demand 3, and laws of the three-step sum and its check.
 pub mod Bounds
 pub mod Order
 pub mod Entered
 pub mod Results
 pub mod Chain
+pub mod CheckEntered
+pub mod Faithfulness
+pub mod Demand

@@ -5,7 +5,8 @@ use mathlib.Core.Bool.{true}
 use mathlib.Core.Logic.{_⊎_, inl, inr, ⊎-elim}
 use native.Mathlib.Omega.{arith}
 use lib.IntN.{ℤ, natAbs}
-use Rattle.theory.specs.Round.{Direction, round}
+use Rattle.theory.specs.Round.{round}
+use Rattle.theory.specs.declared.Direction.{Direction}
 use Rattle.theory.specs.Signed.{roundZ}
 use Rattle.format.specs.declared.Format.{Format}
 use Rattle.format.specs.declared.Refusal.the-variants.{TooLarge}
@@ -15,8 +16,8 @@ use Rattle.number.specs.declared.Answer.{Answer}
 use Rattle.number.specs.declared.Answer.the-variants.{Value, Refused}
 use Rattle.number.specs.Numbers.{member, value, greatest, number}
 use Rattle.number.proofs.Membership.{Member, members, member-made}
-use Rattle.prepared_arithmetic.proofs.Outcome.{Outcome, given, too-large, roundedZ-outcome}
-use Rattle.prepared_arithmetic.specs.Operations.{rounded, roundedZ}
+use Rattle.arithmetic.proofs.Outcome.{Outcome, given, too-large, roundedZ-outcome}
+use Rattle.arithmetic.specs.Operations.{rounded, roundedZ}
 
 -- the answer is a number y of the format that has the value v
 pub record Given (f : Format) (answer : Answer) (v : ℤ) (y : Number) : Type 0 where

@@ -4,7 +4,7 @@ use mathlib.Core.Bool.{Bool}
 use mathlib.Core.List.{[], _∷_}
 use lib.Dec.{leb, eqb}
 use Rattle.theory.specs.Tests.{_and_, unless}
-use Rattle.theory.specs.Round.{Direction}
+use Rattle.theory.specs.declared.Direction.{Direction}
 use Rattle.format.specs.declared.Format.{Format}
 use Rattle.format.specs.declared.Refusal.{Refusal}
 use Rattle.format.specs.declared.Refusal.the-variants.{NotBinary, SmallerFirst}
@@ -14,7 +14,7 @@ use Rattle.number.specs.declared.Answer.{Answer}
 use Rattle.number.specs.declared.Answer.the-variants as answer
 use Rattle.number.specs.Numbers.{magnitude}
 use Rattle.number.specs.Entry.{entry, after}
-use Rattle.prepared_arithmetic.specs.Operations.{roundedSum, roundedDifference}
+use Rattle.arithmetic.specs.Operations.{roundedSum, roundedDifference}
 use Rattle.fast_two_sum.specs.declared.Steps.{Steps}
 use Rattle.fast_two_sum.specs.declared.StepsAnswer.{StepsAnswer}
 use Rattle.fast_two_sum.specs.declared.StepsAnswer.the-variants as steps

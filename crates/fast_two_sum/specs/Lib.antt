@@ -1,3 +1,4 @@
--- Demand 3, and what the three-step sum answers.
+-- Demand 3, and what the three-step sum and its check answer.
 pub mod Triples
 pub mod Calls
+pub mod Checks

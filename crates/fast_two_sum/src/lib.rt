@@ -1,4 +1,5 @@
-// The three-step sum (FastTwoSum) of two numbers of a binary format, and what the sum and its check answer.
+// The three-step sum (FastTwoSum) of two numbers of a binary format, and its check.
+pub mod check;
 pub mod entry;
 pub mod sum;
 

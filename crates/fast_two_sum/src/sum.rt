@@ -2,7 +2,8 @@
 use crate::Steps;
 use crate::StepsAnswer;
 use crate::entry::check_order;
-use format::Direction;
+use arithmetic::sum::add;
+use arithmetic::sum::subtract;
 use format::Format;
 use format::Preparation;
 use format::Prepared;
@@ -14,12 +15,10 @@ use number::Answer;
 use number::Number;
 use number::entry::with_direction;
 use number::entry::with_number;
-use prepared_arithmetic::sum::add;
-use prepared_arithmetic::sum::subtract;
+use theory::Direction;
 ghost use mathlib.Core.Path.{_≡_};
 ghost use mathlib.Core.Bool.{true};
 ghost use mathlib.Core.List.{[], _∷_};
-ghost use Rattle.format.specs.Directions.{sense};
 ghost use Rattle.number.specs.Numbers.{member};
 ghost use Rattle.number.specs.Entry.{Usable, entered};
 ghost use Rattle.fast_two_sum.specs.Calls.{then, threeSteps, fastTwoSum};
@@ -53,7 +52,7 @@ pub fn three_steps(
     b: Number,
 ) -> StepsAnswer
     requires { ⌜ Usable prepared × (member (prepared .format) a ≡ true) × (member (prepared .format) b ≡ true) ⌝ }
-    ensures { λ r. ⌜ r ≡ threeSteps (prepared .format) (sense first) (sense second) (sense third) a b ⌝ }
+    ensures { λ r. ⌜ r ≡ threeSteps (prepared .format) first second third a b ⌝ }
 {
     let sum = add(prepared, first, a, b);
     let Answer::Value(x) = sum else {

@@ -1,8 +1,8 @@
 // The directions by their numbers.
-use crate::Direction;
+use theory::Direction;
 ghost use mathlib.Core.Path.{_≡_};
 ghost use mathlib.Core.Bool.{true};
-ghost use Rattle.format.specs.Directions.{isDirection, direction, sense};
+ghost use Rattle.format.specs.Directions.{isDirection, direction};
 
 // Is `number` that of a direction?
 pub fn is_direction(number: u32) -> bool
@@ -14,7 +14,7 @@ pub fn is_direction(number: u32) -> bool
 // The direction with this number.
 pub fn direction_of(number: u32) -> Direction
     requires { ⌜ isDirection number ≡ true ⌝ }
-    ensures { λ r. ⌜ sense r ≡ direction number ⌝ }
+    ensures { λ r. ⌜ r ≡ direction number ⌝ }
 {
     match number {
         0 => Direction::NearestEven,

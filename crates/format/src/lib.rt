@@ -39,15 +39,6 @@ pub enum Refusal {
     StripCount,
 }
 
-// The five directions, in the order of their numbers 0 to 4.
-pub enum Direction {
-    NearestEven,
-    NearestAway,
-    TowardZero,
-    Upward,
-    Downward,
-}
-
 // A base and a number of digits, with the powers that every operation needs: full = base ^ (digits - 1), top = base ^ digits.
 pub struct Scale {
     pub base: u32,

@@ -1,11 +1,11 @@
 // The cut of n * base ^ up / base ^ down: one division by a power, or none.
 use crate::Cut;
-use crate::Location;
 use crate::choice::locate;
 use crate::digits::digit_count;
 use crate::digits::power;
 use format::Scale;
 use format::Significand;
+use theory::Location;
 ghost use mathlib.Core.Path.{_≡_};
 ghost use Prim.Native.Nat.{_+_, _*_, _<_, _≤_, _^_};
 ghost use Rattle.format.specs.Formats.{Scaled};

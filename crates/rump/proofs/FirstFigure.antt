@@ -7,7 +7,7 @@ use native.Mathlib.Omega.{arith}
 use lib.IntN.{ℤ, pos, natAbs}
 use Rattle.theory.specs.Place.{Positional, place}
 use Rattle.theory.specs.Neighbours.{lower}
-use Rattle.theory.specs.Round.{toward-zero}
+use Rattle.theory.specs.declared.Direction.the-variants.{TowardZero}
 use Rattle.theory.specs.Units.{ufp}
 use Rattle.theory.specs.Rump.{sum, difference, product, below-one, scaled-up, ufp-toward-zero}
 use Rattle.theory.proofs.Powers.{pow-add, pow-pos, pow-mono, pow-pred}
@@ -37,7 +37,7 @@ abbrev q : Format → ℕ → ℤ
 q f n = scaled-up (f .base) (f .digits) (one f) n
 
 abbrev shrunk : Format → ℕ → ℤ
-shrunk f n = product (f .base) (f .digits) toward-zero (one f) (p1 f) (q f n)
+shrunk f n = product (f .base) (f .digits) TowardZero (one f) (p1 f) (q f n)
 
 module _ {f : Format} {n : ℕ} (k : First f n) where
   ok : Positional (f .base) (f .digits)
@@ -59,7 +59,7 @@ module _ {f : Format} {n : ℕ} (k : First f n) where
 
   p1-line : Line f (belowOne f) (p1 f)
   unfolding belowOne below-one
-  p1-line = difference-line (k .admits) toward-zero (one-line (k .admits) (k .reach)) (subrealmin-line (k .admits)) refl p1-most
+  p1-line = difference-line (k .admits) TowardZero (one-line (k .admits) (k .reach)) (subrealmin-line (k .admits)) refl p1-most
 
   -- ---- line 3, φ = β ^ (p - 1) + 1
   phi-most : phi f ≤ greatest f
@@ -69,14 +69,14 @@ module _ {f : Format} {n : ℕ} (k : First f n) where
       omega (arith, pow-pred (f .base) (k .admits .digits-low), mul-le-mul-right (f .base ^ j) (k .admits .base-low), pow-pos (k .admits .base-low) j) in
       le-trans (mul-le-mul-right (one f) top) (constant-most (k .admits) (k .reach) (f .digits) (omega arith))
 
-  phi-is : sum (f .base) (f .digits) toward-zero (pos (f .base ^ (f .digits - 1) * one f)) (pos (one f)) ≡ pos (phi f)
+  phi-is : sum (f .base) (f .digits) TowardZero (pos (f .base ^ (f .digits - 1) * one f)) (pos (one f)) ≡ pos (phi f)
   phi-is =
       sum-toward-zero ok (f .base ^ (f .digits - 1) * one f) (one f)
       ∙ ap pos (ap (lower (f .base) (f .digits)) (omega arith) ∙ lower-exact ok (phi f) (wide-phi ok (belowZero (f .emin))))
 
-  phi-line : Line f (plus f toward-zero (power f (f .digits - 1)) (power f 0)) (pos (phi f))
+  phi-line : Line f (plus f TowardZero (power f (f .digits - 1)) (power f 0)) (pos (phi f))
   phi-line =
-      sum-line (k .admits) toward-zero (power-line (k .admits) (k .reach) (f .digits - 1) (omega arith)) (one-line (k .admits) (k .reach)) phi-is phi-most
+      sum-line (k .admits) TowardZero (power-line (k .admits) (k .reach) (f .digits - 1) (omega arith)) (one-line (k .admits) (k .reach)) phi-is phi-most
 
   -- ---- line 4, q = φ f
   ufp-most : ufp (f .base) n ≤ f .base ^ (highestPlace f - f .digits)
@@ -103,7 +103,7 @@ module _ {f : Format} {n : ℕ} (k : First f n) where
       sym (pow-add (f .base) (f .digits) (highestPlace f - f .digits)) ∙ ap (λ (j : ℕ). f .base ^ j) (omega (arith, k .reach .low, k .reach .span)) in
       omega (arith, scaled-up-most ok n, mul-le-mul-left (f .base ^ f .digits) ufp-most, power-most (k .admits) (highestPlace f) (omega arith))
 
-  first-is : difference (f .base) (f .digits) toward-zero (q f n) (shrunk f n) ≡ pos (ufp (f .base) n)
+  first-is : difference (f .base) (f .digits) TowardZero (q f n) (shrunk f n) ≡ pos (ufp (f .base) n)
   unfolding ufp-toward-zero
   first-is = rw one-is (ufp-toward-zero-is ok spare n)
 
@@ -111,15 +111,15 @@ module _ {f : Format} {n : ℕ} (k : First f n) where
     q-line : Line f (scaledUp f x) (q f n)
     unfolding scaledUp scaled-up
     q-line =
-        product-line (k .admits) toward-zero phi-line h (k .reach .not-above) refl (rw (scaled-up-is ok (one f) n (one-positive (k .admits))) scaled-most)
+        product-line (k .admits) TowardZero phi-line h (k .reach .not-above) refl (rw (scaled-up-is ok (one f) n (one-positive (k .admits))) scaled-most)
 
     -- ---- line 5, p1 q and S = q - p1 q
-    shrunk-line : Line f (times f toward-zero (belowOne f) (scaledUp f x)) (shrunk f n)
+    shrunk-line : Line f (times f TowardZero (belowOne f) (scaledUp f x)) (shrunk f n)
     shrunk-line =
-        product-line (k .admits) toward-zero p1-line q-line (k .reach .not-above) refl (rw (one-is, shrunk-is ok spare n) (omega (arith, scaled-most)))
+        product-line (k .admits) TowardZero p1-line q-line (k .reach .not-above) refl (rw (one-is, shrunk-is ok spare n) (omega (arith, scaled-most)))
 
     pub figure1-line : Line f (figure1 f x) (pos (ufp (f .base) n))
     unfolding figure1
     figure1-line =
         let within = power-most (k .admits) (highestPlace f - f .digits) (omega arith) in
-        difference-line (k .admits) toward-zero q-line shrunk-line first-is (omega (arith, ufp-most, within))
+        difference-line (k .admits) TowardZero q-line shrunk-line first-is (omega (arith, ufp-most, within))

@@ -6,7 +6,7 @@ use native.Mathlib.Nat.{le-trans}
 use native.Mathlib.Omega.{arith}
 use lib.IntN.{ℤ, pos, ℤ-discrete, *ℤ-comm}
 use Rattle.theory.specs.Place.{Positional}
-use Rattle.theory.specs.Round.{toward-zero, upward}
+use Rattle.theory.specs.declared.Direction.the-variants.{TowardZero, Upward}
 use Rattle.theory.specs.Signed.{roundZ}
 use Rattle.theory.specs.Units.{ulp}
 use Rattle.theory.specs.Rump.{sum, difference, product, ulp-upward, gap-below, gap-defect, ulp-unbranched}
@@ -41,27 +41,27 @@ module _ (f : Format) (n : ℕ) where
 
   -- figure 3: the number after |f|
   abbrev next : ℤ
-  next = sum (f .base) (f .digits) upward (pos n) (pos 1)
+  next = sum (f .base) (f .digits) Upward (pos n) (pos 1)
 
   -- figures 4 and 5: the number before |f|, S, f + S
   abbrev preceding : ℤ
-  preceding = difference (f .base) (f .digits) toward-zero (pos n) (pos 1)
+  preceding = difference (f .base) (f .digits) TowardZero (pos n) (pos 1)
 
   abbrev S : ℤ
   S = gap-below (f .base) (f .digits) n
 
   abbrev raised : ℤ
-  raised = sum (f .base) (f .digits) toward-zero (pos n) S
+  raised = sum (f .base) (f .digits) TowardZero (pos n) S
 
   -- figure 5: (f + S) - f, d, (β - 1) d
   abbrev back : ℤ
-  back = difference (f .base) (f .digits) toward-zero raised (pos n)
+  back = difference (f .base) (f .digits) TowardZero raised (pos n)
 
   abbrev d : ℤ
   d = gap-defect (f .base) (f .digits) n
 
   abbrev correction : ℤ
-  correction = product (f .base) (f .digits) toward-zero (one f) (factor f) d
+  correction = product (f .base) (f .digits) TowardZero (one f) (factor f) d
 
 module _ {f : Format} {n : ℕ} (k : Last f n) where
   ok : Positional (f .base) (f .digits)
@@ -74,21 +74,21 @@ module _ {f : Format} {n : ℕ} (k : Last f n) where
   most : {m : ℕ} → m ≤ n + ulp (f .base) (f .digits) n → m ≤ greatest f
   most l = le-trans l next-most
 
-  upward-is : difference (f .base) (f .digits) upward (next f n) (pos n) ≡ last-place f n
+  upward-is : difference (f .base) (f .digits) Upward (next f n) (pos n) ≡ last-place f n
   unfolding ulp-upward
   upward-is = ulp-upward-is ok (k .wide) (k .some)
 
   values : Unbranched (f .base) (f .digits) (one f) n
   values = unbranched ok (k .wide) (k .some) (one f) (one-positive (k .admits))
 
-  unbranched-is : difference (f .base) (f .digits) toward-zero (S f n) (correction f n) ≡ last-place f n
+  unbranched-is : difference (f .base) (f .digits) TowardZero (S f n) (correction f n) ≡ last-place f n
   unfolding ulp-unbranched
   unbranched-is = values .result
 
   -- figure 5, line 6: β - 1
-  factor-is : difference (f .base) (f .digits) toward-zero (pos (f .base * one f)) (pos (one f)) ≡ factor f
+  factor-is : difference (f .base) (f .digits) TowardZero (pos (f .base * one f)) (pos (one f)) ≡ factor f
   factor-is =
-      difference-exact ok toward-zero (f .base * one f) (one f) ((f .base - 1) * one f)
+      difference-exact ok TowardZero (f .base * one f) (one f) ((f .base - 1) * one f)
       (less-one (f .base - 1) (f .base) (one f) (omega (arith, k .admits .base-low))) (wide-base-pred ok (belowZero (f .emin)))
 
   factor-most : (f .base - 1) * one f ≤ greatest f
@@ -100,41 +100,41 @@ module _ {f : Format} {n : ℕ} (k : Last f n) where
         constant-most (k .admits) (k .reach) 1 (k .admits .digits-low),
       )
 
-  factor-line : Line f (minus f toward-zero (power f 1) (power f 0)) (factor f)
+  factor-line : Line f (minus f TowardZero (power f 1) (power f 0)) (factor f)
   factor-line =
-      difference-line (k .admits) toward-zero (base-line (k .admits) (k .reach)) (one-line (k .admits) (k .reach)) factor-is factor-most
+      difference-line (k .admits) TowardZero (base-line (k .admits) (k .reach)) (one-line (k .admits) (k .reach)) factor-is factor-most
 
   module _ {x : Answer} (h : Line f x (pos n)) where
     -- ---- figure 3
-    next-line : Line f (plus f upward x (subrealmin f)) (next f n)
+    next-line : Line f (plus f Upward x (subrealmin f)) (next f n)
     next-line =
-        sum-line (k .admits) upward h (subrealmin-line (k .admits)) refl (most (rw (sum-upward-is ok (k .wide) (k .some)) (omega arith)))
+        sum-line (k .admits) Upward h (subrealmin-line (k .admits)) refl (most (rw (sum-upward-is ok (k .wide) (k .some)) (omega arith)))
 
     pub figure3-line : Line f (figure3 f x) (last-place f n)
     unfolding figure3
-    figure3-line = difference-line (k .admits) upward next-line h upward-is (most (omega arith))
+    figure3-line = difference-line (k .admits) Upward next-line h upward-is (most (omega arith))
 
     -- ---- figures 4 and 5
-    preceding-line : Line f (minus f toward-zero x (subrealmin f)) (preceding f n)
+    preceding-line : Line f (minus f TowardZero x (subrealmin f)) (preceding f n)
     preceding-line =
-        difference-line (k .admits) toward-zero h (subrealmin-line (k .admits)) refl
+        difference-line (k .admits) TowardZero h (subrealmin-line (k .admits)) refl
         (most (rw (difference-toward-zero ok n 1 (k .some)) (omega (arith, lower-le ok (n - 1)))))
 
     gap-line : Line f (gap f x) (S f n)
     unfolding gap gap-below
-    gap-line = difference-line (k .admits) toward-zero h preceding-line refl (most (omega (arith, values .gap-most)))
+    gap-line = difference-line (k .admits) TowardZero h preceding-line refl (most (omega (arith, values .gap-most)))
 
-    raised-line : Line f (plus f toward-zero x (gap f x)) (raised f n)
-    raised-line = sum-line (k .admits) toward-zero h gap-line refl (most (values .sum-most))
+    raised-line : Line f (plus f TowardZero x (gap f x)) (raised f n)
+    raised-line = sum-line (k .admits) TowardZero h gap-line refl (most (values .sum-most))
 
     -- figure 4: S β where x + S gives x, and S elsewhere
-    turned : product (f .base) (f .digits) toward-zero (one f) (S f n) (pos (f .base * one f)) ≡ product (f .base) (f .digits) toward-zero (one f) (pos (f .base * one f)) (S f n)
+    turned : product (f .base) (f .digits) TowardZero (one f) (S f n) (pos (f .base * one f)) ≡ product (f .base) (f .digits) TowardZero (one f) (pos (f .base * one f)) (S f n)
     unfolding product
-    turned = ap (λ (v : ℤ). roundZ (f .base) (f .digits) toward-zero v (one f)) (*ℤ-comm (S f n) (pos (f .base * one f)))
+    turned = ap (λ (v : ℤ). roundZ (f .base) (f .digits) TowardZero v (one f)) (*ℤ-comm (S f n) (pos (f .base * one f)))
 
-    corrected-line : raised f n ≡ pos n → Line f (times f toward-zero (gap f x) (power f 1)) (last-place f n)
+    corrected-line : raised f n ≡ pos n → Line f (times f TowardZero (gap f x) (power f 1)) (last-place f n)
     corrected-line e =
-        product-line (k .admits) toward-zero gap-line (base-line (k .admits) (k .reach)) (k .reach .not-above)
+        product-line (k .admits) TowardZero gap-line (base-line (k .admits) (k .reach)) (k .reach .not-above)
         (turned ∙ ulp-if-same ok (k .wide) (k .some) (one f) (one-positive (k .admits)) e) (most (omega arith))
 
     pub figure4-line : Line f (figure4 f x) (last-place f n)
@@ -147,11 +147,11 @@ module _ {f : Format} {n : ℕ} (k : Last f n) where
         b : Number
         b = h .number
 
-        chosen : {t : Bool} {r : Answer} → equalZ (value f a) (value f b) ≡ t → cond t (times f toward-zero (gap f x) (power f 1)) (gap f x) ≡ r
+        chosen : {t : Bool} {r : Answer} → equalZ (value f a) (value f b) ≡ t → cond t (times f TowardZero (gap f x) (power f 1)) (gap f x) ≡ r
             → figure4 f x ≡ r
         chosen e g =
-            ap₂ (both (choose f (times f toward-zero (gap f x) (power f 1)) (gap f x))) (raised-line .is) (h .is)
-            ∙ ap (λ (t : Bool). cond t (times f toward-zero (gap f x) (power f 1)) (gap f x)) e ∙ g
+            ap₂ (both (choose f (times f TowardZero (gap f x) (power f 1)) (gap f x))) (raised-line .is) (h .is)
+            ∙ ap (λ (t : Bool). cond t (times f TowardZero (gap f x) (power f 1)) (gap f x)) e ∙ g
 
         by : Dec (raised f n ≡ pos n) → Line f (figure4 f x) (last-place f n)
         by (yes e) = line-is (chosen (equal-made (raised-line .has .is ∙ e ∙ sym (h .has .is))) refl) (corrected-line e)
@@ -160,17 +160,17 @@ module _ {f : Format} {n : ℕ} (k : Last f n) where
             (rw (ulp-if-other ok (k .wide) (k .some) e) at gap-line)
 
     -- figure 5
-    back-line : Line f (minus f toward-zero (plus f toward-zero x (gap f x)) x) (back f n)
-    back-line = difference-line (k .admits) toward-zero raised-line h refl (most (omega (arith, values .back-most)))
+    back-line : Line f (minus f TowardZero (plus f TowardZero x (gap f x)) x) (back f n)
+    back-line = difference-line (k .admits) TowardZero raised-line h refl (most (omega (arith, values .back-most)))
 
     defect-line : Line f (defect f x) (d f n)
     unfolding defect gap-defect
-    defect-line = difference-line (k .admits) toward-zero back-line gap-line refl (most (omega (arith, values .defect-most)))
+    defect-line = difference-line (k .admits) TowardZero back-line gap-line refl (most (omega (arith, values .defect-most)))
 
-    correction-line : Line f (times f toward-zero (minus f toward-zero (power f 1) (power f 0)) (defect f x)) (correction f n)
+    correction-line : Line f (times f TowardZero (minus f TowardZero (power f 1) (power f 0)) (defect f x)) (correction f n)
     correction-line =
-        product-line (k .admits) toward-zero factor-line defect-line (k .reach .not-above) refl (most (omega (arith, values .correction-most)))
+        product-line (k .admits) TowardZero factor-line defect-line (k .reach .not-above) refl (most (omega (arith, values .correction-most)))
 
     pub figure5-line : Line f (figure5 f x) (last-place f n)
     unfolding figure5
-    figure5-line = difference-line (k .admits) toward-zero gap-line correction-line unbranched-is (most (omega arith))
+    figure5-line = difference-line (k .admits) TowardZero gap-line correction-line unbranched-is (most (omega arith))

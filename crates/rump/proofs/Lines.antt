@@ -7,7 +7,7 @@ use native.Mathlib.Nat.{mul-one, one-mul, mul-comm, pow-zero}
 use native.Mathlib.Omega.{arith}
 use lib.IntN.{ℤ, pos, natAbs, _+ℤ_, _-ℤ_, _*ℤ_}
 use Rattle.theory.specs.Wide.{Wide}
-use Rattle.theory.specs.Round.{Direction}
+use Rattle.theory.specs.declared.Direction.{Direction}
 use Rattle.theory.specs.Signed.{signed, roundZ}
 use Rattle.theory.specs.Rump.{sum, difference, product}
 use Rattle.theory.proofs.Integers.{size-signed}
@@ -24,8 +24,8 @@ use Rattle.number.specs.Numbers.{member, magnitude, value, greatest, number}
 use Rattle.number.proofs.Membership.{members, member-made}
 use Rattle.number.proofs.Values.{number-same, number-of, own-sign, number-member, number-value, one-greatest}
 use Rattle.wide.proofs.Signs.{signed-times}
-use Rattle.prepared_arithmetic.specs.Operations.{roundedSum, roundedDifference, roundedProduct}
-use Rattle.prepared_arithmetic.proofs.Outcome.{Outcome, given, too-large, rounded-outcome, roundedZ-outcome}
+use Rattle.arithmetic.specs.Operations.{roundedSum, roundedDifference, roundedProduct}
+use Rattle.arithmetic.proofs.Outcome.{Outcome, given, too-large, rounded-outcome, roundedZ-outcome}
 use Rattle.rump.specs.Figures.{both, plus, minus, times, one, power, subrealmin}
 use Rattle.rump.specs.Steps.{isLine}
 use Rattle.rump.proofs.Reach.{Reach, first-power, constant-most}

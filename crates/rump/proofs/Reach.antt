@@ -23,7 +23,7 @@ use Rattle.number.specs.Entry.{Usable}
 use Rattle.number.specs.Numbers.{member, magnitude, greatest}
 use Rattle.number.proofs.Membership.{members, known}
 use Rattle.number.proofs.Values.{member-wide, member-greatest}
-use Rattle.prepared_arithmetic.proofs.Prepared.{parts-above, parts-below}
+use Rattle.arithmetic.proofs.Prepared.{parts-above, parts-below}
 use Rattle.rump.specs.Figures.{one}
 use Rattle.rump.specs.Premises.{premise, firstPremise, lastPremise}
 

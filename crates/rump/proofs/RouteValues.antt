@@ -18,7 +18,7 @@ use Rattle.number.specs.declared.Number.{Number}
 use Rattle.number.specs.declared.Answer.the-variants.{Value, Refused}
 use Rattle.number.specs.Numbers.{equalZ, normal, small, isZero, member, magnitude, value, greatest, number, delivered}
 use Rattle.number.specs.Entry.{entry, after}
-use Rattle.prepared_arithmetic.specs.Operations.{rounded, roundedZ, roundedProduct, summed, subtracted, multiplied}
+use Rattle.arithmetic.specs.Operations.{rounded, roundedZ, roundedProduct, summed, subtracted, multiplied}
 use Rattle.rump.specs.Figures.{both, belowOne, scaledUp, figure1}
 
 abbrev decimal : (emin : ℤ) → Format

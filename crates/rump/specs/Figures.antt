@@ -2,14 +2,15 @@
 -- x is |f| of the source, as the answer that a line gives; a line that is refused hands its refusal on.
 use Prim.Native.Nat.{ℕ, _*_, _-_, _^_}
 use mathlib.Core.Bool.{false, cond}
-use Rattle.theory.specs.Round.{Direction, toward-zero, upward}
+use Rattle.theory.specs.declared.Direction.{Direction}
+use Rattle.theory.specs.declared.Direction.the-variants.{TowardZero, Upward}
 use Rattle.format.specs.declared.Format.{Format}
 use Rattle.number.specs.declared.Number.{Number}
 use Rattle.number.specs.declared.Answer.{Answer}
 use Rattle.number.specs.declared.Answer.the-variants.{Value, Refused}
 use Rattle.number.specs.Exponents.{belowZero}
 use Rattle.number.specs.Numbers.{equalZ, value, number}
-use Rattle.prepared_arithmetic.specs.Operations.{roundedSum, roundedDifference, roundedProduct}
+use Rattle.arithmetic.specs.Operations.{roundedSum, roundedDifference, roundedProduct}
 
 -- ---- an operation on the numbers of two lines
 unfoldable pub both : (Number → Number → Answer) → (a b : Answer) → Answer
@@ -46,33 +47,33 @@ subrealmin f = Value (number f false 1)
 -- ---- the first place, toward zero
 -- p1 = 1 - subrealmin
 unfoldable pub belowOne : Format → Answer
-belowOne f = minus f toward-zero (power f 0) (subrealmin f)
+belowOne f = minus f TowardZero (power f 0) (subrealmin f)
 
 -- q = phi x, where phi = β ^ (p - 1) + 1
 unfoldable pub scaledUp : Format → Answer → Answer
-scaledUp f x = times f toward-zero (plus f toward-zero (power f (f .digits - 1)) (power f 0)) x
+scaledUp f x = times f TowardZero (plus f TowardZero (power f (f .digits - 1)) (power f 0)) x
 
 -- S = q - p1 q
 unfoldable pub figure1 : Format → Answer → Answer
-figure1 f x = minus f toward-zero (scaledUp f x) (times f toward-zero (belowOne f) (scaledUp f x))
+figure1 f x = minus f TowardZero (scaledUp f x) (times f TowardZero (belowOne f) (scaledUp f x))
 
 -- ---- the last place, up: s = x + subrealmin, S = s - x
 unfoldable pub figure3 : Format → Answer → Answer
-figure3 f x = minus f upward (plus f upward x (subrealmin f)) x
+figure3 f x = minus f Upward (plus f Upward x (subrealmin f)) x
 
 -- ---- the last place, toward zero
 -- p = x - subrealmin, S = x - p
 unfoldable pub gap : Format → Answer → Answer
-gap f x = minus f toward-zero x (minus f toward-zero x (subrealmin f))
+gap f x = minus f TowardZero x (minus f TowardZero x (subrealmin f))
 
 -- S β where x + S = x, and S elsewhere
 unfoldable pub figure4 : Format → Answer → Answer
-figure4 f x = both (choose f (times f toward-zero (gap f x) (power f 1)) (gap f x)) (plus f toward-zero x (gap f x)) x
+figure4 f x = both (choose f (times f TowardZero (gap f x) (power f 1)) (gap f x)) (plus f TowardZero x (gap f x)) x
 
 -- d = ((x + S) - x) - S
 unfoldable pub defect : Format → Answer → Answer
-defect f x = minus f toward-zero (minus f toward-zero (plus f toward-zero x (gap f x)) x) (gap f x)
+defect f x = minus f TowardZero (minus f TowardZero (plus f TowardZero x (gap f x)) x) (gap f x)
 
 -- S - (β - 1) d
 unfoldable pub figure5 : Format → Answer → Answer
-figure5 f x = minus f toward-zero (gap f x) (times f toward-zero (minus f toward-zero (power f 1) (power f 0)) (defect f x))
+figure5 f x = minus f TowardZero (gap f x) (times f TowardZero (minus f TowardZero (power f 1) (power f 0)) (defect f x))

@@ -1,13 +1,12 @@
 // The engine's operations on the numbers of two lines of a figure. A refusal is handed on.
-use format::Direction;
+use arithmetic::product::multiply;
+use arithmetic::sum::add;
+use arithmetic::sum::subtract;
 use format::Prepared;
 use number::Answer;
-use prepared_arithmetic::product::multiply;
-use prepared_arithmetic::sum::add;
-use prepared_arithmetic::sum::subtract;
+use theory::Direction;
 ghost use mathlib.Core.Path.{_≡_};
 ghost use mathlib.Core.Bool.{true};
-ghost use Rattle.format.specs.Directions.{sense};
 ghost use Rattle.number.specs.Entry.{Usable};
 ghost use Rattle.rump.specs.Figures.{plus, minus, times};
 ghost use Rattle.rump.specs.Steps.{isLine};
@@ -15,7 +14,7 @@ ghost use Rattle.rump.specs.Steps.{isLine};
 // a + b.
 pub fn sum(prepared: Prepared, direction: Direction, a: Answer, b: Answer) -> Answer
     requires { ⌜ Usable prepared × (isLine (prepared .format) a ≡ true) × (isLine (prepared .format) b ≡ true) ⌝ }
-    ensures { λ r. ⌜ (r ≡ plus (prepared .format) (sense direction) a b) × (isLine (prepared .format) r ≡ true) ⌝ }
+    ensures { λ r. ⌜ (r ≡ plus (prepared .format) direction a b) × (isLine (prepared .format) r ≡ true) ⌝ }
 {
     let Answer::Value(x) = a else {
         return a;
@@ -29,7 +28,7 @@ pub fn sum(prepared: Prepared, direction: Direction, a: Answer, b: Answer) -> An
 // a - b.
 pub fn difference(prepared: Prepared, direction: Direction, a: Answer, b: Answer) -> Answer
     requires { ⌜ Usable prepared × (isLine (prepared .format) a ≡ true) × (isLine (prepared .format) b ≡ true) ⌝ }
-    ensures { λ r. ⌜ (r ≡ minus (prepared .format) (sense direction) a b) × (isLine (prepared .format) r ≡ true) ⌝ }
+    ensures { λ r. ⌜ (r ≡ minus (prepared .format) direction a b) × (isLine (prepared .format) r ≡ true) ⌝ }
 {
     let Answer::Value(x) = a else {
         return a;
@@ -43,7 +42,7 @@ pub fn difference(prepared: Prepared, direction: Direction, a: Answer, b: Answer
 // a * b.
 pub fn product(prepared: Prepared, direction: Direction, a: Answer, b: Answer) -> Answer
     requires { ⌜ Usable prepared × (isLine (prepared .format) a ≡ true) × (isLine (prepared .format) b ≡ true) ⌝ }
-    ensures { λ r. ⌜ (r ≡ times (prepared .format) (sense direction) a b) × (isLine (prepared .format) r ≡ true) ⌝ }
+    ensures { λ r. ⌜ (r ≡ times (prepared .format) direction a b) × (isLine (prepared .format) r ≡ true) ⌝ }
 {
     let Answer::Value(x) = a else {
         return a;

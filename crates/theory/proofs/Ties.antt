@@ -10,7 +10,7 @@ use borrow.Author.Tests.{eq-eqb, ne-eqb}
 use Rattle.theory.specs.Place.{Positional, place, step}
 use Rattle.theory.specs.Wide.{Wide}
 use Rattle.theory.specs.Neighbours.{lowerQ, upperQ}
-use Rattle.theory.specs.Round.{Direction, nearest-even, nearest-away, half, location, chosen, takes-upper, round}
+use Rattle.theory.specs.Round.{Direction, NearestEven, NearestAway, Half, location, chosen, takes-upper, round}
 use Rattle.theory.proofs.Multiples.{multiple-of, multiple-power, multiple-le, multiple-gap}
 use Rattle.theory.proofs.Place.{place-fits, place-mono, step-pos}
 use Rattle.theory.proofs.Wide.{wide-low, wide-multiple}
@@ -59,7 +59,7 @@ module _ {β p N D n : ℕ} (ok : Positional β p) (t : Tie β p N D n) where
       le-antisymm (upperQ-least ok N (t .divisor) (steps-wide (n + 1) (omega arith)) (omega (arith, sides .1)))
       (omega (arith, multiple-gap (multiple-of n) (wide-low ok (upperQ-wide ok N (t .divisor)) (place-mono ok whole)) over))
 
-  located : location N D (lowerQ β p N D) (upperQ β p N D) ≡ half
+  located : location N D (lowerQ β p N D) (upperQ β p N D) ≡ Half
   located =
       location-is
       (middle (λ e. omega (arith, sides .0, ap (λ (q : ℕ). q * D) tie-lower))
@@ -69,15 +69,15 @@ module _ {β p N D n : ℕ} (ok : Positional β p) (t : Tie β p N D n) where
   parity = ap (λ (q : ℕ). eqb (q % 2) 1) (ap (λ (l : ℕ). l / step β p (N / D)) tie-lower ∙ mul-div-cancel n (step-pos ok (N / D)))
 
   -- direction 0: the even one of n and n + 1
-  pub tie-even : (negative : Bool) → n % 2 ≡ 0 → round β p nearest-even negative N D ≡ n * step β p (N / D)
+  pub tie-even : (negative : Bool) → n % 2 ≡ 0 → round β p NearestEven negative N D ≡ n * step β p (N / D)
   unfolding round takes-upper chosen
   tie-even negative e = rw (located, parity, ne-eqb (n % 2) 1 (λ o. omega arith)) tie-lower
 
-  pub tie-odd : (negative : Bool) → n % 2 ≡ 1 → round β p nearest-even negative N D ≡ (n + 1) * step β p (N / D)
+  pub tie-odd : (negative : Bool) → n % 2 ≡ 1 → round β p NearestEven negative N D ≡ (n + 1) * step β p (N / D)
   unfolding round takes-upper chosen
   tie-odd negative e = rw (located, parity, eq-eqb (n % 2) 1 e) tie-upper
 
   -- direction 1: the one away from zero
-  pub tie-away : (negative : Bool) → round β p nearest-away negative N D ≡ (n + 1) * step β p (N / D)
+  pub tie-away : (negative : Bool) → round β p NearestAway negative N D ≡ (n + 1) * step β p (N / D)
   unfolding round takes-upper chosen
   tie-away negative = rw located tie-upper

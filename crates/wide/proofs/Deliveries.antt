@@ -10,14 +10,13 @@ use lib.IntN.{ℤ, pos, negsuc, natAbs, pos-ne-negsuc}
 use borrow.Author.Tests.{eq-eqb, ne-eqb}
 use Rattle.theory.specs.Place.{Positional, place}
 use Rattle.theory.specs.Round.{round}
+use Rattle.theory.specs.declared.Direction.{Direction}
 use Rattle.theory.specs.Signed.{signed}
 use Rattle.theory.proofs.Powers.{pow-pos}
 use Rattle.theory.proofs.Place.{place-le}
 use Rattle.theory.proofs.Wide.{wide-zero}
 use Rattle.theory.proofs.Round.{round-exact}
-use Rattle.format.specs.declared.Direction.{Direction}
 use Rattle.format.specs.declared.Scale.{Scale}
-use Rattle.format.specs.Directions.{sense}
 use Rattle.format.specs.Formats.{Scaled}
 use Rattle.rounding.specs.declared.Cut.{Cut}
 use Rattle.rounding.specs.declared.Rounded.{Rounded}
@@ -52,7 +51,7 @@ pub delivered-zero : {β p : ℕ} → Positional β p → (d : Direction) (a : B
     → delivered β p d a 0 D ≡ record { negative = false; significand = 0; place = 0 }
 unfolding delivered rounded withSign written
 delivered-zero {β} {p} ok d a D hD =
-    let none : round β p (sense d) a 0 D ≡ 0 = round-exact ok 0 hD (sense d) a 0 (wide-zero ok) (omega arith) in
+    let none : round β p d a 0 D ≡ 0 = round-exact ok 0 hD d a 0 (wide-zero ok) (omega arith) in
     let lowest : place β p 0 ≡ 0 = omega (arith, place-le ok {n = 0} {k = 0} (pow-pos (ok .base) (p + 0))) in
     rw (none, zero-div, lowest)
 

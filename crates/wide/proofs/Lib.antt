@@ -6,3 +6,7 @@ pub mod Sums
 pub mod Products
 pub mod Quotients
 pub mod Results
+-- the long division of fractions
+pub mod Digits
+pub mod Cuts
+pub mod Examples

@@ -11,7 +11,7 @@ use Rattle.theory.proofs.Powers.{pow-add, pow-pos, pow-mono, pow-half}
 use Rattle.theory.proofs.Place.{step-pos}
 use Rattle.format.specs.declared.Scale.{Scale}
 use Rattle.format.specs.Formats.{Scaled}
-use Rattle.rounding.specs.declared.Location.the-variants.{Below}
+use Rattle.theory.specs.declared.Location.the-variants.{Below}
 use Rattle.rounding.specs.Cut.{cutOf, dropped}
 use Rattle.rounding.specs.Digits.{Digits}
 use Rattle.rounding.specs.Location.{located}

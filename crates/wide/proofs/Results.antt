@@ -10,6 +10,7 @@ use borrow.Author.Tests.{ne-eqb}
 use Rattle.theory.specs.Place.{Positional, place}
 use Rattle.theory.specs.Wide.{Canonical}
 use Rattle.theory.specs.Round.{round}
+use Rattle.theory.specs.declared.Direction.{Direction}
 use Rattle.theory.specs.Signed.{signed, is-negative, roundZ}
 use Rattle.theory.proofs.Powers.{pow-add, pow-pos}
 use Rattle.theory.proofs.Place.{place-le}
@@ -17,9 +18,7 @@ use Rattle.theory.proofs.Round.{round-exact}
 use Rattle.theory.proofs.Monotone.{round-mono}
 use Rattle.theory.proofs.Integers.{scale-signed, own-sign}
 use Rattle.theory.proofs.Signed.{roundZ-signed}
-use Rattle.format.specs.declared.Direction.{Direction}
 use Rattle.format.specs.declared.Scale.{Scale}
-use Rattle.format.specs.Directions.{sense}
 use Rattle.format.specs.Formats.{Scaled}
 use Rattle.rounding.specs.Cut.{written, rounded}
 use Rattle.rounding.proofs.Cuts.{rounded-canonical, rounded-value}
@@ -35,9 +34,9 @@ use Rattle.wide.proofs.Sizes.{greatest-below, shifted-size, sum-size, p
 -- r is ± N / D, rounded; zero is plus
 pub record Result (β p : ℕ) (d : Direction) (negative : Bool) (N D : ℕ) (r : Wide) : Type 0 where
   pub canonical : Canonical β p (r .significand) (r .place)
-  pub size : sizeOf β r ≡ round β p (sense d) negative N D
+  pub size : sizeOf β r ≡ round β p d negative N D
   pub sign : r .negative ≡ not (eqb (r .significand) 0) && negative
-  pub value : valueOf β r ≡ roundZ β p (sense d) (signed negative N) D
+  pub value : valueOf β r ≡ roundZ β p d (signed negative N) D
 
 -- zero is plus, and so the sign says nothing at zero
 plus-zero : (m t : ℕ) (negative : Bool) → signed (not (eqb m 0) && negative) (m * t) ≡ signed negative (m * t)
@@ -62,7 +61,7 @@ module _ {β p : ℕ} (ok : Positional β p) (d : Direction) where
           canonical = rounded-canonical ok d negative N D hD;
           size = rounded-value ok d negative N D hD;
           sign = refl;
-          value = plus-zero _ _ negative ∙ ap (signed negative) (rounded-value ok d negative N D hD) ∙ sym (roundZ-signed ok hD (sense d) negative N);
+          value = plus-zero _ _ negative ∙ ap (signed negative) (rounded-value ok d negative N D hD) ∙ sym (roundZ-signed ok hD d negative N);
         }
 
     -- what is at most the greatest number at place k has a place of at most k
@@ -70,10 +69,10 @@ module _ {β p : ℕ} (ok : Positional β p) (d : Direction) where
     unfolding delivered withSign rounded written
     delivered-place k l =
         let w : ℕ = (β ^ p - 1) * β ^ k in
-        let most : round β p (sense d) negative N D ≤ round β p (sense d) negative w 1 =
-        round-mono ok (sense d) negative (record { divisor = hD; divisor′ = omega arith; cross = omega arith }) in
-        let itself : round β p (sense d) negative w 1 ≡ w =
-        round-exact ok w (omega arith) (sense d) negative w (record { significand = β ^ p - 1; exponent = k; small = omega (arith, pow-pos (ok .base) p); is = refl }) (omega arith) in
+        let most : round β p d negative N D ≤ round β p d negative w 1 =
+        round-mono ok d negative (record { divisor = hD; divisor′ = omega arith; cross = omega arith }) in
+        let itself : round β p d negative w 1 ≡ w =
+        round-exact ok w (omega arith) d negative w (record { significand = β ^ p - 1; exponent = k; small = omega (arith, pow-pos (ok .base) p); is = refl }) (omega arith) in
         place-le ok (omega (arith, greatest-below ok k))
 
   module _ (x y : Wide) where
@@ -81,19 +80,19 @@ module _ {β p : ℕ} (ok : Positional β p) (d : Direction) where
     unfolding summed deliveredZ
     summed-result = delivered-result _ _ 1 (omega arith)
 
-    pub summed-value : valueOf β (summed β p d x y) ≡ roundZ β p (sense d) (valueOf β x +ℤ valueOf β y) 1
-    summed-value = summed-result .value ∙ ap (λ (z : ℤ). roundZ β p (sense d) z 1) (own-sign (valueOf β x +ℤ valueOf β y))
+    pub summed-value : valueOf β (summed β p d x y) ≡ roundZ β p d (valueOf β x +ℤ valueOf β y) 1
+    summed-value = summed-result .value ∙ ap (λ (z : ℤ). roundZ β p d z 1) (own-sign (valueOf β x +ℤ valueOf β y))
 
     module _ (up down : ℕ) where
       pub multiplied-result : Result β p d (xor (x .negative) (y .negative)) (sizeOf β x * sizeOf β y * β ^ up) (β ^ down) (multiplied β p d x y up down)
       unfolding multiplied
       multiplied-result = delivered-result _ _ _ (pow-pos (ok .base) down)
 
-      pub multiplied-value : valueOf β (multiplied β p d x y up down) ≡ roundZ β p (sense d) (valueOf β x *ℤ valueOf β y *ℤ pos (β ^ up)) (β ^ down)
+      pub multiplied-value : valueOf β (multiplied β p d x y up down) ≡ roundZ β p d (valueOf β x *ℤ valueOf β y *ℤ pos (β ^ up)) (β ^ down)
       multiplied-value =
           let a : Bool = xor (x .negative) (y .negative) in
           multiplied-result .value
-          ∙ ap (λ (z : ℤ). roundZ β p (sense d) z (β ^ down))
+          ∙ ap (λ (z : ℤ). roundZ β p d z (β ^ down))
           (sym (ap (λ (z : ℤ). z *ℤ pos (β ^ up)) (signed-times (x .negative) (y .negative) (sizeOf β x) (sizeOf β y)) ∙ scale-signed a (sizeOf β x * sizeOf β y) (β ^ up)))
 
       pub divided-result : 1 ≤ y .significand

@@ -15,8 +15,8 @@ use Rattle.theory.proofs.Integers.{size-signed}
 use Rattle.format.specs.declared.Scale.{Scale}
 use Rattle.format.specs.Formats.{Scaled}
 use Rattle.rounding.specs.declared.Cut.{Cut}
-use Rattle.rounding.specs.declared.Location.{Location}
-use Rattle.rounding.specs.declared.Location.the-variants.{Exact, Below, Above}
+use Rattle.theory.specs.declared.Location.{Location}
+use Rattle.theory.specs.declared.Location.the-variants.{Exact, Below, Above}
 use Rattle.rounding.specs.Cut.{cutOf}
 use Rattle.rounding.specs.Location.{located}
 use Rattle.rounding.proofs.Locations.{located-exact, located-below, located-above, located-scaled}

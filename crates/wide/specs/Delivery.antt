@@ -2,7 +2,7 @@
 use Prim.Native.Nat.{ℕ}
 use mathlib.Core.Bool.{Bool, not, _&&_}
 use lib.Dec.{eqb}
-use Rattle.format.specs.declared.Direction.{Direction}
+use Rattle.theory.specs.declared.Direction.{Direction}
 use Rattle.rounding.specs.declared.Rounded.{Rounded}
 use Rattle.rounding.specs.Cut.{rounded}
 use Rattle.wide.specs.declared.Wide.{Wide}

@@ -1,7 +1,7 @@
 -- The product of two numbers in the unit β ^ up / β ^ down.
 use Prim.Native.Nat.{ℕ, _^_, _*_}
 use mathlib.Core.Bool.{xor}
-use Rattle.format.specs.declared.Direction.{Direction}
+use Rattle.theory.specs.declared.Direction.{Direction}
 use Rattle.wide.specs.declared.Wide.{Wide}
 use Rattle.wide.specs.Operand.{sizeOf}
 use Rattle.wide.specs.Delivery.{delivered}

@@ -2,7 +2,7 @@
 use Prim.Native.Nat.{ℕ, _^_, _*_, _≤_, _<_}
 use mathlib.Core.Path.{_≡_}
 use mathlib.Core.Bool.{xor}
-use Rattle.format.specs.declared.Direction.{Direction}
+use Rattle.theory.specs.declared.Direction.{Direction}
 use Rattle.format.specs.declared.Scale.{Scale}
 use Rattle.wide.specs.declared.Wide.{Wide}
 use Rattle.wide.specs.Operand.{sizeOf}

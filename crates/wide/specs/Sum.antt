@@ -4,9 +4,9 @@ use mathlib.Core.Path.{_≡_}
 use mathlib.Core.Bool.{Bool}
 use lib.IntN.{ℤ, natAbs, _+ℤ_}
 use Rattle.theory.specs.Signed.{signed, is-negative}
-use Rattle.format.specs.declared.Direction.{Direction}
+use Rattle.theory.specs.declared.Direction.{Direction}
+use Rattle.theory.specs.declared.Location.{Location}
 use Rattle.format.specs.declared.Scale.{Scale}
-use Rattle.rounding.specs.declared.Location.{Location}
 use Rattle.rounding.specs.Cut.{cutOf}
 use Rattle.rounding.specs.Location.{located}
 use Rattle.wide.specs.declared.Wide.{Wide}

@@ -1,9 +1,9 @@
 // The last step of every operation: the rounded magnitude with its sign.
 use crate::Wide;
-use format::Direction;
 use format::Scale;
 use rounding::Cut;
 use rounding::choice::finish;
+use theory::Direction;
 ghost use mathlib.Core.Path.{_≡_};
 ghost use Prim.Native.Nat.{ℕ, _<_, _≤_, _^_};
 ghost use Rattle.format.specs.Formats.{Scaled};

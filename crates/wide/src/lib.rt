@@ -1,7 +1,9 @@
-// The wide format: its numbers, the last step of every operation, and the product. Sum and quotient stand in crates of their own; the
-// definitions and laws of all three stand here.
+// The wide format: its numbers, and sum, product, quotient and fraction, rounded. It knows no formats, no signed exponents and no refusals.
 pub mod delivery;
+pub mod long_division;
 pub mod product;
+pub mod quotient;
+pub mod sum;
 
 use format::Significand;
 use rounding::Cut;

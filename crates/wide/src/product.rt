@@ -1,11 +1,11 @@
 // The product: the significands' product, cut.
 use crate::Wide;
 use crate::delivery::deliver;
-use format::Direction;
 use format::Scale;
 use rounding::Cut;
 use rounding::cutting::cut;
 use rounding::cutting::cut_long;
+use theory::Direction;
 ghost use mathlib.Core.Path.{_≡_};
 ghost use Prim.Native.Nat.{_*_, _<_, _^_};
 ghost use Rattle.format.specs.Formats.{Scaled};

@@ -5,7 +5,7 @@ use lib.IntN.{ℤ}
 use mir.Syntax.{w32}
 use mir.Val.{SFits}
 use Rattle.format.proofs.Signed.{back}
-use Rattle.prepared_arithmetic.specs.Operations.{fractioned}
+use Rattle.arithmetic.specs.Operations.{fractioned}
 use Rattle.decimal_vectors.specs.DecimalLines.{written, hasOutcome, fractionAt, fractionAgrees}
 use Rattle.decimal_vectors.proofs.fraction_agrees.Statement.{statement}
 use Rattle.decimal_vectors.proofs.fraction_agrees.Tie as tie

@@ -2,13 +2,13 @@
 use borrow.Author.Needs.{needs}
 use mathlib.Core.Path.{_≡_, sym, _∙_}
 use mathlib.Core.List.{[], _∷_}
-use Rattle.theory.specs.Round as theory
+use Rattle.theory.specs.declared.Direction.{Direction}
 use Rattle.format.specs.declared.Format.{Format}
 use Rattle.format.specs.declared.Preparation.the-variants.{Ready}
 use Rattle.format.proofs.Signed.{back}
 use Rattle.number.specs.Entry.{entered}
 use Rattle.number.proofs.Entries.{ends, prepared-entered}
-use Rattle.prepared_arithmetic.specs.Operations.{roundedFraction, fractioned}
+use Rattle.arithmetic.specs.Operations.{roundedFraction, fractioned}
 use Rattle.arithmetic.proofs.Entered.{entrance, answered}
 use Rattle.arithmetic.proofs.fraction.fraction.Statement.{statement}
 use Rattle.arithmetic.proofs.fraction.fraction.Tie as tie
@@ -41,7 +41,7 @@ returns-2 c =
     let d = c .before in
     let p = d .before .before in
     let s = p .before .before .before .before in
-    answered _ _ _ (passed p) (λ (f : Format) (t : theory.Direction). roundedFraction f t (s .args .numerator) (s .args .denominator))
+    answered _ _ _ (passed p) (λ (f : Format) (t : Direction). roundedFraction f t (s .args .numerator) (s .args .denominator))
     (d .direction-of .ensures) (c .divide-whole .ensures ∙ rw (back (s .fits .numerator)))
 
 pub fraction-spec : {M : Type 1} → statement M

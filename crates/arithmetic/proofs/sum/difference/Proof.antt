@@ -2,12 +2,12 @@
 use borrow.Author.Needs.{needs}
 use mathlib.Core.Path.{_≡_, sym, _∙_}
 use mathlib.Core.List.{[], _∷_}
-use Rattle.theory.specs.Round as theory
+use Rattle.theory.specs.declared.Direction.{Direction}
 use Rattle.format.specs.declared.Format.{Format}
 use Rattle.format.specs.declared.Preparation.the-variants.{Ready}
 use Rattle.number.specs.Entry.{entered}
 use Rattle.number.proofs.Entries.{ends, prepared-entered}
-use Rattle.prepared_arithmetic.specs.Operations.{roundedDifference, subtracted}
+use Rattle.arithmetic.specs.Operations.{roundedDifference, subtracted}
 use Rattle.arithmetic.proofs.Entered.{operation, answered}
 use Rattle.arithmetic.proofs.sum.difference.Statement.{statement}
 use Rattle.arithmetic.proofs.sum.difference.Tie as tie
@@ -44,7 +44,7 @@ returns-2 c =
     let d = c .before in
     let p = d .before .before in
     let s = p .before .before .before .before .before .before .args in
-    answered _ _ _ (passed p) (λ (f : Format) (t : theory.Direction). roundedDifference f t (s .a) (s .b)) (d .direction-of .ensures) (c .subtract .ensures)
+    answered _ _ _ (passed p) (λ (f : Format) (t : Direction). roundedDifference f t (s .a) (s .b)) (d .direction-of .ensures) (c .subtract .ensures)
 
 pub difference-spec : {M : Type 1} → statement M
 difference-spec =

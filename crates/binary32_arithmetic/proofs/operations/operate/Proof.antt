@@ -3,7 +3,6 @@ use borrow.Author.Needs.{needs}
 use mathlib.Core.Path.{_≡_, sym, ap₂, _∙_}
 use mathlib.Core.Bool.{true}
 use Rattle.format.specs.declared.Format.{Format}
-use Rattle.format.specs.Directions.{sense}
 use Rattle.format.specs.Published.{binary32}
 use Rattle.number.specs.declared.Answer.{Answer}
 use Rattle.number.specs.Numbers.{member}
@@ -37,11 +36,11 @@ divide-requires c κs = let h = asked (c .before .before) in search needs
 
 -- the operation that was told, of the prepared format, is the operation of format 2
 told : (c : tie.After-prepared-binary32) {o : Operation} {r : Answer} → c .before .args .operation ≡ o
-    → r ≡ roundedBy o (c .prepared-binary32 .result .format) (sense (c .before .args .direction)) (c .before .args .a) (c .before .args .b)
-    → r ≡ roundedBy (c .before .args .operation) binary32 (sense (c .before .args .direction)) (c .before .args .a) (c .before .args .b)
+    → r ≡ roundedBy o (c .prepared-binary32 .result .format) (c .before .args .direction) (c .before .args .a) (c .before .args .b)
+    → r ≡ roundedBy (c .before .args .operation) binary32 (c .before .args .direction) (c .before .args .a) (c .before .args .b)
 told c e h =
     let s = c .before .args in
-    h ∙ ap₂ (λ (o : Operation) (f : Format). roundedBy o f (sense (s .direction)) (s .a) (s .b)) (sym e) (prepared-format (c .prepared-binary32 .ensures))
+    h ∙ ap₂ (λ (o : Operation) (f : Format). roundedBy o f (s .direction) (s .a) (s .b)) (sym e) (prepared-format (c .prepared-binary32 .ensures))
 
 returns : tie.Need-returns
 returns c = let t = c .before in told (t .before .before) (t .enum-told .given .1) (c .add .ensures)

@@ -1,7 +1,6 @@
 -- `binary32_arithmetic::operations::operate_on_patterns` meets its contract.
 use borrow.Author.Needs.{needs}
 use mathlib.Core.Path.{sym, ap, _∙_}
-use Rattle.format.specs.Directions.{sense}
 use Rattle.binary32.specs.Patterns.{answerWritten}
 use Rattle.binary32_arithmetic.proofs.Reading.{Given, given, refused, first-member, second-member}
 use Rattle.binary32_arithmetic.proofs.Results.{result-member}
@@ -18,7 +17,7 @@ operate-requires c κs = let g = both (c .before) in (first-member g, second-mem
 write-answer-requires : tie.Need-write-answer-requires
 write-answer-requires c κs =
     let s = c .before .before .before .before .before .args in
-    λ x h. result-member (s .operation) (sense (s .direction)) _ _ (sym (c .operate .ensures) ∙ h)
+    λ x h. result-member (s .operation) (s .direction) _ _ (sym (c .operate .ensures) ∙ h)
 
 returns : tie.Need-returns
 returns c = refused _ _ _ _ (sym (c .before .before .before .read-two .ensures) ∙ c .before .why .given .1)

@@ -7,7 +7,6 @@ use mathlib.Core.Bool.{false}
 use mathlib.Core.List.{List}
 use Prim.Native.Nat.{ℕ, _≤_, _<_, _-_}
 use lib.ListN.{length, getD}
-use Rattle.format.specs.Directions.{sense}
 use Rattle.binary32.specs.declared.Pattern.{Pattern}
 use Rattle.binary32.specs.declared.Pattern.the-variants as pattern
 use Rattle.binary32_arithmetic.specs.Slices.{verdictOf, isRefused, entries}
@@ -17,7 +16,7 @@ use Rattle.binary32_arithmetic.proofs.slices.first_refused.Tie as tie
 
 abbrev Inv-loop : tie.InvT-loop
 Inv-loop direction a b i₀ i =
-    (i ≤ length a) × ((k : ℕ) → k < i → isRefused (getD (entries (sense direction) a b) k (pattern.Written 0)) ≡ false)
+    (i ≤ length a) × ((k : ℕ) → k < i → isRefused (getD (entries direction a b) k (pattern.Written 0)) ≡ false)
 
 abbrev μ-loop : tie.MeasureT-loop
 μ-loop direction a b i₀ i = length a - i
@@ -30,14 +29,14 @@ module _ (j : tie.After-examine Inv-loop μ-loop) where
   i = j .before .before .before .before .loop .i
 
   abbrev all : List Pattern
-  all = entries (sense (start .args .direction)) (start .args .a .now) (start .args .b .now)
+  all = entries (start .args .direction) (start .args .a .now) (start .args .b .now)
 
   -- this entry's verdict
   here : verdictOf (getD all i (pattern.Written 0)) ≡ j .examine .result
-  here = ap verdictOf (entry-at (sense (start .args .direction)) (start .args .a .now) (start .args .b .now) (start .pre) i (omega arith)) ∙ sym (j .examine .ensures)
+  here = ap verdictOf (entry-at (start .args .direction) (start .args .a .now) (start .args .b .now) (start .pre) i (omega arith)) ∙ sym (j .examine .ensures)
 
   within : i < length all
-  within = omega (arith, entries-length (sense (start .args .direction)) (start .args .a .now) (start .args .b .now) (start .pre))
+  within = omega (arith, entries-length (start .args .direction) (start .args .a .now) (start .args .b .now) (start .pre))
 
 loop-holds : tie.Need-loop-holds Inv-loop μ-loop
 loop-holds c = (search needs, λ k l. absurd (omega arith))
@@ -56,8 +55,8 @@ returns-2 : tie.Need-returns-2 Inv-loop μ-loop
 returns-2 c =
     let st = c .before .before .before .before in
     let s = st .args in
-    let count = entries-length (sense (s .direction)) (s .a .now) (s .b .now) (st .pre) in
-    sym (refused-nowhere (entries (sense (s .direction)) (s .a .now) (s .b .now)) (λ k h. c .before .loop .inv .1 k (omega (arith, count))))
+    let count = entries-length (s .direction) (s .a .now) (s .b .now) (st .pre) in
+    sym (refused-nowhere (entries (s .direction) (s .a .now) (s .b .now)) (λ k h. c .before .loop .inv .1 k (omega (arith, count))))
 
 pub first-refused-spec : {M : Type 1} → statement M
 first-refused-spec =

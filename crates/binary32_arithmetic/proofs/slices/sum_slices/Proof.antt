@@ -8,7 +8,7 @@ use Prim.Native.Nat.{ℕ}
 use lib.Dec.{eqb}
 use lib.ListN.{length}
 use Rattle.theory.specs.Tests.{_and_}
-use Rattle.theory.specs.Round.{Direction}
+use Rattle.theory.specs.declared.Direction.{Direction}
 use Rattle.theory.proofs.Tests.{and-made, denied, granted, unless-passed, unless-failed}
 use Rattle.format.specs.declared.Refusal.the-variants.{NoSuchDirection, LengthsDiffer}
 use Rattle.format.specs.Directions.{isDirection, direction}

@@ -3,7 +3,6 @@ use borrow.Author.Needs.{needs}
 use Prim.Native.Nat.{ℕ}
 use mathlib.Core.Path.{_≡_, sym, ap, ap₂, _∙_}
 use mathlib.Core.Bool.{true}
-use Rattle.format.specs.Directions.{sense}
 use Rattle.format.specs.Published.{binary32}
 use Rattle.number.specs.Numbers.{member}
 use Rattle.boundaries.specs.declared.StepAnswer.the-variants.{Added}
@@ -22,7 +21,7 @@ module _ (j : tie.After-three-sum) where
   abbrev start : tie.Start
   start = j .before .before .before
 
-  answered : stepWritten (j .three-sum .result) ≡ stripAdded (sense (start .args .direction)) (start .args .x) (start .args .strip)
+  answered : stepWritten (j .three-sum .result) ≡ stripAdded (start .args .direction) (start .args .x) (start .args .strip)
   answered = sum-written _ _ _ (j .before .before .read-finite .ensures) (j .before .read-finite2 .ensures) (j .three-sum .ensures)
 
 -- x and y are in the format
@@ -30,7 +29,7 @@ members : (c : tie.After-t) → (member binary32 (c .t .given .0 .0 .x) ≡ true
 members c =
     let j = c .before .before in
     let s = start j in
-    triple-members (sense (s .args .direction)) _ _ (read-number (s .args .x) (j .before .before .read-finite .ensures) (s .pre .0))
+    triple-members (s .args .direction) _ _ (read-number (s .args .x) (j .before .before .read-finite .ensures) (s .pre .0))
     (read-number (s .args .strip) (j .before .read-finite2 .ensures) (s .pre .1)) (sym (j .three-sum .ensures) ∙ c .t .given .1)
 
 pattern-of-requires : tie.Need-pattern-of-requires

@@ -7,10 +7,10 @@ use mathlib.Core.List.{List}
 use Prim.Native.Nat.{ℕ, suc, _≤_, _<_}
 use lib.ListN.{length}
 use Rattle.theory.specs.Lists.{firstWhere, none}
-use Rattle.theory.specs.Round.{Direction}
+use Rattle.theory.specs.declared.Direction.{Direction}
 use Rattle.theory.proofs.Tests.{denied, granted}
 use Rattle.format.specs.Given.{gives, refusedAt}
-use Rattle.format.specs.Directions.{isDirection, sense}
+use Rattle.format.specs.Directions.{isDirection}
 use Rattle.binary32.specs.Patterns.{notFinite}
 use Rattle.boundaries.specs.Steps.{Summable}
 use Rattle.boundaries.specs.Sums.{boundarySteps, restsOf, summed, boundaryAnswer}
@@ -103,12 +103,12 @@ module _ (c : tie.After-first-too-large) where
   abbrev entered : tie.Else3
   entered = lengths (finite-strips .before)
 
-  passed : summed (sense (c .before .direction-of .result)) (strips entered) ≡ boundaryAnswer (d entered) (strips entered) (rests entered)
+  passed : summed (c .before .direction-of .result) (strips entered) ≡ boundaryAnswer (d entered) (strips entered) (rests entered)
   passed =
       checked (d entered) (strips entered) (rests entered) (some entered) (few entered) (second entered) (directed (finite-strips .before)) (all-finite finite-strips)
       (c .before .direction-of .ensures)
 
-complete : (c : tie.Else6) → suc (length (boundarySteps (sense (c .before .before .direction-of .result)) (strips (entered (c .before))))) ≡ length (strips (entered (c .before)))
+complete : (c : tie.Else6) → suc (length (boundarySteps (c .before .before .direction-of .result) (strips (entered (c .before))))) ≡ length (strips (entered (c .before)))
 complete c = sym (c .before .first-too-large .ensures) ∙ c .if6 .left
 
 write-rests-requires : tie.Need-write-rests-requires

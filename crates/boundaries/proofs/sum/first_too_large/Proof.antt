@@ -6,7 +6,6 @@ use mathlib.Core.Path.{_≡_, sym, _∙_}
 use mathlib.Core.Bool.{true}
 use Prim.Native.Nat.{ℕ, suc, _+_, _≤_, _<_, _-_}
 use lib.ListN.{length, getD, drop}
-use Rattle.format.specs.Directions.{sense}
 use Rattle.binary32.specs.Patterns.{finite}
 use Rattle.binary32.proofs.PatternValues.{all-finite}
 use Rattle.boundaries.specs.Sums.{stepsFrom, boundarySteps}
@@ -18,7 +17,7 @@ use Rattle.boundaries.proofs.sum.first_too_large.Tie as tie
 
 abbrev Inv-loop : tie.InvT-loop
 Inv-loop direction strips x₀ i₀ x i =
-    (i ≤ length strips) × (finite x ≡ true) × (i + length (stepsFrom (sense direction) x (drop i strips)) ≡ suc (length (boundarySteps (sense direction) strips)))
+    (i ≤ length strips) × (finite x ≡ true) × (i + length (stepsFrom direction x (drop i strips)) ≡ suc (length (boundarySteps direction strips)))
 
 abbrev μ-loop : tie.MeasureT-loop
 μ-loop direction strips x₀ i₀ x i = length strips - i
@@ -29,12 +28,12 @@ shared-slice-read-x c = omega (arith, c .before .before .before .before .pre .so
 returns : tie.Need-returns Inv-loop μ-loop
 returns c =
     let s = c .before .before .before in
-    small-added (sense (s .args .direction)) (s .args .strips .now) (s .pre .some) (s .pre .few) (all-finite (s .args .strips .now) (s .pre .finite)) (sym (c .before .are-small .ensures) ∙ c .if1 .taken)
+    small-added (s .args .direction) (s .args .strips .now) (s .pre .some) (s .pre .few) (all-finite (s .args .strips .now) (s .pre .finite)) (sym (c .before .are-small .ensures) ∙ c .if1 .taken)
 
 loop-holds : tie.Need-loop-holds Inv-loop μ-loop
 loop-holds c =
     let s = c .before .before .before .before in
-    (s .pre .some, all-finite (s .args .strips .now) (s .pre .finite) 0 (omega (arith, s .pre .some)), count-begin (sense (s .args .direction)) (s .args .strips .now) (s .pre .some))
+    (s .pre .some, all-finite (s .args .strips .now) (s .pre .finite) 0 (omega (arith, s .pre .some)), count-begin (s .args .direction) (s .args .strips .now) (s .pre .some))
 
 -- ---- a step
 module _ (c : tie.After-shared-slice-known3 Inv-loop μ-loop) where
@@ -63,8 +62,8 @@ returns-2 c =
     let s = start k in
     let r = requirements k in
     sym
-    (count-stops (sense (s .args .direction)) (x k) (i k) (s .args .strips .now) (inside k)
-    (first-refused (sense (s .args .direction)) (x k) (getD (s .args .strips .now) (i k) 0) (r .0) (r .1) (sym (j .add-first .ensures) ∙ c .enum-told .given .1)))
+    (count-stops (s .args .direction) (x k) (i k) (s .args .strips .now) (inside k)
+    (first-refused (s .args .direction) (x k) (getD (s .args .strips .now) (i k) 0) (r .0) (r .1) (sym (j .add-first .ensures) ∙ c .enum-told .given .1)))
     ∙ k .before .before .loop .inv .2
 
 loop-again : tie.Need-loop-again Inv-loop μ-loop
@@ -73,16 +72,16 @@ loop-again c =
     let k = j .before in
     let s = start k in
     let r = requirements k in
-    let a = first-added (sense (s .args .direction)) (x k) (getD (s .args .strips .now) (i k) 0) (r .0) (r .1) (sym (j .add-first .ensures) ∙ c .before .next .given .1) in (
+    let a = first-added (s .args .direction) (x k) (getD (s .args .strips .now) (i k) 0) (r .0) (r .1) (sym (j .add-first .ensures) ∙ c .before .next .given .1) in (
       omega arith,
       a .3,
-      sym (count-goes-on (sense (s .args .direction)) (x k) (i k) (s .args .strips .now) (inside k) (a .1) (a .2)) ∙ k .before .before .loop .inv .2,
+      sym (count-goes-on (s .args .direction) (x k) (i k) (s .args .strips .now) (inside k) (a .1) (a .2)) ∙ k .before .before .loop .inv .2,
     )
 
 returns-3 : tie.Need-returns-3 Inv-loop μ-loop
 returns-3 c =
     let s = c .before .before .before .before .before .before .args in
-    sym (count-ends (sense (s .direction)) (c .before .loop .x) (c .before .loop .i) (s .strips .now) (omega arith)) ∙ c .before .loop .inv .2
+    sym (count-ends (s .direction) (c .before .loop .x) (c .before .loop .i) (s .strips .now) (omega arith)) ∙ c .before .loop .inv .2
 
 pub first-too-large-spec : {M : Type 1} → statement M
 first-too-large-spec =

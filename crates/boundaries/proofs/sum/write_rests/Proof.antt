@@ -7,7 +7,6 @@ use mathlib.Core.Bool.{true}
 use mathlib.Core.List.{List}
 use Prim.Native.Nat.{ℕ, suc, _≤_, _<_, _-_, _+_}
 use lib.ListN.{length, getD, drop}
-use Rattle.format.specs.Directions.{sense}
 use Rattle.binary32.specs.Patterns.{finite}
 use Rattle.binary32.proofs.PatternValues.{all-finite}
 use Rattle.boundaries.specs.Sums.{stepsFrom, boundarySteps, lastX, restsOf, firstOf}
@@ -18,8 +17,8 @@ use Rattle.boundaries.proofs.sum.write_rests.Tie as tie
 
 abbrev Inv-loop : tie.InvT-loop
 Inv-loop direction strips rests₀ x₀ done₀ rests x done =
-    (done ≤ length rests₀) × (length rests ≡ length rests₀) × (finite x ≡ true) × (restsLeft (sense direction) x done strips rests ≡ restsOf (boundarySteps (sense direction) strips))
-    × (lastX x (stepsFrom (sense direction) x (drop (done + 1) strips)) ≡ lastX (firstOf strips) (boundarySteps (sense direction) strips))
+    (done ≤ length rests₀) × (length rests ≡ length rests₀) × (finite x ≡ true) × (restsLeft direction x done strips rests ≡ restsOf (boundarySteps direction strips))
+    × (lastX x (stepsFrom direction x (drop (done + 1) strips)) ≡ lastX (firstOf strips) (boundarySteps direction strips))
 
 abbrev μ-loop : tie.MeasureT-loop
 μ-loop direction strips rests₀ x₀ done₀ rests x done = length strips - done
@@ -31,7 +30,7 @@ loop-holds : tie.Need-loop-holds Inv-loop μ-loop
 loop-holds c =
     let s = c .before .before .before in
     let p = s .pre .0 in
-    (omega arith, search needs, all-finite (s .args .strips .now) (p .finite) 0 (omega (arith, p .some)), rests-begin (sense (s .args .direction)) (s .args .strips .now) (s .args .rests .now) (p .some), last-begin (sense (s .args .direction)) (s .args .strips .now) (p .some))
+    (omega arith, search needs, all-finite (s .args .strips .now) (p .finite) 0 (omega (arith, p .some)), rests-begin (s .args .direction) (s .args .strips .now) (s .args .rests .now) (p .some), last-begin (s .args .direction) (s .args .strips .now) (p .some))
 
 -- ---- a step
 module _ (c : tie.After-shared-slice-known3 Inv-loop μ-loop) where
@@ -71,9 +70,9 @@ returns c =
     absurd
     (omega (
       arith,
-      rest-missing (sense (s .args .direction)) (x k) (done k) (strips k) (rests k) (inside k) (lengths k) (sym (j .add-strip .ensures) ∙ c .enum-told .given .1),
+      rest-missing (s .args .direction) (x k) (done k) (strips k) (rests k) (inside k) (lengths k) (sym (j .add-strip .ensures) ∙ c .enum-told .given .1),
       ap length (k .before .before .loop .inv .3),
-      rests-length (boundarySteps (sense (s .args .direction)) (strips k)),
+      rests-length (boundarySteps (s .args .direction) (strips k)),
       s .pre .1 .1,
       k .before .before .loop .inv .1,
     ))
@@ -92,9 +91,9 @@ loop-again c =
     let e = sym (j .add-strip .ensures) ∙ c .before .t .given .1 in (
       omega (arith, inside k, k .before .before .loop .inv .1),
       search needs,
-      added-finite (sense (s .args .direction)) (x k) (getD (strips k) (done k + 1) 0) (r .0) (r .1) e,
-      rest-written (sense (s .args .direction)) (x k) (done k) (strips k) (rests k) (inside k) (lengths k) e ∙ k .before .before .loop .inv .3,
-      last-goes-on (sense (s .args .direction)) (x k) (done k + 1) (strips k) (omega (arith, inside k, lengths k)) e ∙ k .before .before .loop .inv .4,
+      added-finite (s .args .direction) (x k) (getD (strips k) (done k + 1) 0) (r .0) (r .1) e,
+      rest-written (s .args .direction) (x k) (done k) (strips k) (rests k) (inside k) (lengths k) e ∙ k .before .before .loop .inv .3,
+      last-goes-on (s .args .direction) (x k) (done k + 1) (strips k) (omega (arith, inside k, lengths k)) e ∙ k .before .before .loop .inv .4,
     )
 
 returns-2 : tie.Need-returns-2 Inv-loop μ-loop
@@ -103,8 +102,8 @@ returns-2 c =
     let s = l .before .before .before .before in
     let lengths : suc (length (l .loop .rests)) ≡ length (s .args .strips .now) = omega (arith, s .pre .1 .0, l .loop .inv .1) in
     let end : l .loop .done ≡ length (l .loop .rests) = omega arith in (
-      sym (last-ends (sense (s .args .direction)) (l .loop .x) (l .loop .done + 1) (s .args .strips .now) (omega (arith, end, lengths))) ∙ l .loop .inv .4,
-      sym (rests-end (sense (s .args .direction)) (l .loop .x) (l .loop .done) (s .args .strips .now) (l .loop .rests) end lengths) ∙ l .loop .inv .3,
+      sym (last-ends (s .args .direction) (l .loop .x) (l .loop .done + 1) (s .args .strips .now) (omega (arith, end, lengths))) ∙ l .loop .inv .4,
+      sym (rests-end (s .args .direction) (l .loop .x) (l .loop .done) (s .args .strips .now) (l .loop .rests) end lengths) ∙ l .loop .inv .3,
     )
 
 pub write-rests-spec : {M : Type 1} → statement M

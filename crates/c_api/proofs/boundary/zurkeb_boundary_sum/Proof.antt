@@ -3,7 +3,7 @@ use borrow.Author.Needs.{needs}
 use native.Mathlib.Omega.{arith}
 use mathlib.Core.Path.{sym, ap, _∙_}
 use Rattle.boundaries.proofs.Ends.{index-below}
-use Rattle.c_answers.specs.Answers.{boundaryOut}
+use Rattle.c_api.specs.Answers.{boundaryOut}
 use Rattle.c_api.proofs.boundary.zurkeb_boundary_sum.Statement.{statement}
 use Rattle.c_api.proofs.boundary.zurkeb_boundary_sum.Tie as tie
 

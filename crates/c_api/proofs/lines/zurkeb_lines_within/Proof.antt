@@ -4,7 +4,7 @@ use mathlib.Core.Path.{ap, _∙_}
 use borrow.Author.Needs.{needs}
 use Rattle.format.specs.Given.{Given}
 use Rattle.saved_lines.specs.Lines.{linesInOrder, withinWritten}
-use Rattle.c_answers.specs.Answers.{reachOut}
+use Rattle.c_api.specs.Answers.{reachOut}
 use Rattle.c_api.proofs.lines.zurkeb_lines_within.Statement.{statement}
 use Rattle.c_api.proofs.lines.zurkeb_lines_within.Tie as tie
 

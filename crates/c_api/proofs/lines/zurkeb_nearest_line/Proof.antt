@@ -1,7 +1,7 @@
 -- `c_api::lines::zurkeb_nearest_line` meets its contract.
 use borrow.Author.Needs.{needs}
 use mathlib.Core.Path.{ap, _∙_}
-use Rattle.c_answers.specs.Answers.{positionOut}
+use Rattle.c_api.specs.Answers.{positionOut}
 use Rattle.c_api.proofs.lines.zurkeb_nearest_line.Statement.{statement}
 use Rattle.c_api.proofs.lines.zurkeb_nearest_line.Tie as tie
 

@@ -4,7 +4,7 @@ use mathlib.Core.Path.{ap, _∙_}
 use borrow.Author.Needs.{needs}
 use Rattle.format.specs.Given.{Given}
 use Rattle.saved_lines.specs.Rows.{rowWritten}
-use Rattle.c_answers.specs.Answers.{rowOut}
+use Rattle.c_api.specs.Answers.{rowOut}
 use Rattle.c_api.proofs.lines.zurkeb_nearest_lines.Statement.{statement}
 use Rattle.c_api.proofs.lines.zurkeb_nearest_lines.Tie as tie
 

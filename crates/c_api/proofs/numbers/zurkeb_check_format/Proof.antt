@@ -1,7 +1,7 @@
 -- `c_api::numbers::zurkeb_check_format` meets its contract.
 use borrow.Author.Needs.{needs}
 use mathlib.Core.Path.{ap, _∙_}
-use Rattle.c_answers.specs.Answers.{verdictOut}
+use Rattle.c_api.specs.Answers.{verdictOut}
 use Rattle.c_api.proofs.numbers.zurkeb_check_format.Statement.{statement}
 use Rattle.c_api.proofs.numbers.zurkeb_check_format.Tie as tie
 

@@ -1,7 +1,7 @@
 -- `c_api::numbers::zurkeb_compare` meets its contract.
 use borrow.Author.Needs.{needs}
 use mathlib.Core.Path.{ap, _∙_}
-use Rattle.c_answers.specs.Answers.{orderOut}
+use Rattle.c_api.specs.Answers.{orderOut}
 use Rattle.c_api.proofs.numbers.zurkeb_compare.Statement.{statement}
 use Rattle.c_api.proofs.numbers.zurkeb_compare.Tie as tie
 

@@ -3,8 +3,8 @@ use borrow.Author.Needs.{needs}
 use mathlib.Core.Path.{ap, _∙_}
 use lib.IntN.{ℤ}
 use Rattle.format.proofs.Signed.{back}
-use Rattle.prepared_arithmetic.specs.Operations.{fractioned}
-use Rattle.c_answers.specs.Answers.{numberOut}
+use Rattle.arithmetic.specs.Operations.{fractioned}
+use Rattle.c_api.specs.Answers.{numberOut}
 use Rattle.c_api.proofs.numbers.zurkeb_fraction.Statement.{statement}
 use Rattle.c_api.proofs.numbers.zurkeb_fraction.Tie as tie
 

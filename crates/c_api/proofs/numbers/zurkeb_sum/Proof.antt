@@ -1,7 +1,7 @@
 -- `c_api::numbers::zurkeb_sum` meets its contract.
 use borrow.Author.Needs.{needs}
 use mathlib.Core.Path.{ap, _∙_}
-use Rattle.c_answers.specs.Answers.{numberOut}
+use Rattle.c_api.specs.Answers.{numberOut}
 use Rattle.c_api.proofs.numbers.zurkeb_sum.Statement.{statement}
 use Rattle.c_api.proofs.numbers.zurkeb_sum.Tie as tie
 

@@ -4,7 +4,7 @@ use mathlib.Core.Path.{ap, _∙_}
 use Rattle.format.specs.Directions.{direction}
 use Rattle.binary32_arithmetic.specs.declared.SliceAnswer.{SliceAnswer}
 use Rattle.binary32_arithmetic.specs.Slices.{sums, slicesWritten}
-use Rattle.c_answers.specs.Answers.{slicesOut}
+use Rattle.c_api.specs.Answers.{slicesOut}
 use Rattle.c_api.proofs.patterns.zurkeb_sum_slices.Statement.{statement}
 use Rattle.c_api.proofs.patterns.zurkeb_sum_slices.Tie as tie
 

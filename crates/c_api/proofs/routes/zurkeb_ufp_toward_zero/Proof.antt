@@ -1,7 +1,7 @@
 -- `c_api::routes::zurkeb_ufp_toward_zero` meets its contract.
 use borrow.Author.Needs.{needs}
 use mathlib.Core.Path.{ap, _∙_}
-use Rattle.c_answers.specs.Answers.{numberOut}
+use Rattle.c_api.specs.Answers.{numberOut}
 use Rattle.c_api.proofs.routes.zurkeb_ufp_toward_zero.Statement.{statement}
 use Rattle.c_api.proofs.routes.zurkeb_ufp_toward_zero.Tie as tie
 

@@ -1,7 +1,7 @@
 -- `c_api::steps::zurkeb_fast_two_sum` meets its contract.
 use borrow.Author.Needs.{needs}
 use mathlib.Core.Path.{ap, _∙_}
-use Rattle.c_answers.specs.Answers.{stepsOut}
+use Rattle.c_api.specs.Answers.{stepsOut}
 use Rattle.c_api.proofs.steps.zurkeb_fast_two_sum.Statement.{statement}
 use Rattle.c_api.proofs.steps.zurkeb_fast_two_sum.Tie as tie
 

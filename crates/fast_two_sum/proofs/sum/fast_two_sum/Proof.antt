@@ -2,7 +2,7 @@
 use borrow.Author.Needs.{needs}
 use mathlib.Core.Path.{_≡_, sym, _∙_}
 use mathlib.Core.List.{[], _∷_}
-use Rattle.theory.specs.Round.{Direction}
+use Rattle.theory.specs.declared.Direction.{Direction}
 use Rattle.format.specs.declared.Format.{Format}
 use Rattle.format.specs.declared.Prepared.{Prepared}
 use Rattle.format.specs.Formats.{preparedOf}

@@ -3,11 +3,10 @@ use borrow.Author.Needs.{needs}
 use mathlib.Core.Path.{_≡_, sym, _∙_}
 use mathlib.Core.Bool.{true}
 use Rattle.format.specs.declared.Refusal.the-variants.{TooLarge}
-use Rattle.format.specs.Directions.{sense}
 use Rattle.number.specs.declared.Answer.the-variants.{Value}
 use Rattle.number.specs.Numbers.{member}
 use Rattle.number.proofs.Membership.{known}
-use Rattle.prepared_arithmetic.specs.Operations.{roundedSum, roundedDifference}
+use Rattle.arithmetic.specs.Operations.{roundedSum, roundedDifference}
 use Rattle.fast_two_sum.specs.declared.StepsAnswer.the-variants.{Refused}
 use Rattle.fast_two_sum.proofs.Results.{rounded-member}
 use Rattle.fast_two_sum.proofs.Chain.{first-refused, second-refused, third-refused, three-given}
@@ -23,7 +22,7 @@ returns c =
 abbrev start₁ : tie.After-sum → tie.Start
 start₁ c = c .before .before .before
 
-first : (c : tie.After-sum) → roundedSum (start₁ c .args .prepared .format) (sense (start₁ c .args .first)) (start₁ c .args .a) (start₁ c .args .b) ≡ Value (c .sum .given .0 .0)
+first : (c : tie.After-sum) → roundedSum (start₁ c .args .prepared .format) (start₁ c .args .first) (start₁ c .args .a) (start₁ c .args .b) ≡ Value (c .sum .given .0 .0)
 first c = sym (c .before .before .add .ensures) ∙ c .sum .given .1
 
 first-member : (c : tie.After-sum) → member (start₁ c .args .prepared .format) (c .sum .given .0 .0) ≡ true
@@ -42,7 +41,7 @@ returns-2 c =
 abbrev start₂ : tie.After-difference → tie.Start
 start₂ c = start₁ (c .before .before .before .before)
 
-second : (c : tie.After-difference) → roundedDifference (start₂ c .args .prepared .format) (sense (start₂ c .args .second)) (c .before .before .before .before .sum .given .0 .0) (start₂ c .args .a)
+second : (c : tie.After-difference) → roundedDifference (start₂ c .args .prepared .format) (start₂ c .args .second) (c .before .before .before .before .sum .given .0 .0) (start₂ c .args .a)
     ≡ Value (c .difference .given .0 .0)
 second c = sym (c .before .before .subtract .ensures) ∙ c .difference .given .1
 

@@ -2,13 +2,13 @@
 use Prim.Native.Nat.{ℕ, zero, suc, _≤_}
 use mathlib.Core.Path.{_≡_, refl, sym, ap}
 use native.Mathlib.Omega.{arith}
-use Rattle.theory.specs.Round.{downward}
+use Rattle.theory.specs.declared.Direction.the-variants.{Downward}
 use Rattle.format.specs.Directions.{direction}
 use Rattle.format.proofs.directions.direction_of.Statement.{statement}
 use Rattle.format.proofs.directions.direction_of.Tie as tie
 
 -- from 4 on
-last : (d : ℕ) → 4 ≤ d → downward ≡ direction d
+last : (d : ℕ) → 4 ≤ d → Downward ≡ direction d
 unfolding direction
 last zero h = absurd (omega arith)
 last (suc zero) h = absurd (omega arith)

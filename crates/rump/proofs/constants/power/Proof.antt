@@ -15,7 +15,7 @@ use Rattle.number.specs.Exponents.{belowZero}
 use Rattle.number.specs.Numbers.{number}
 use Rattle.number.proofs.Membership.{known}
 use Rattle.number.proofs.Values.{emin-admitted}
-use Rattle.prepared_arithmetic.proofs.Prepared.{below-most}
+use Rattle.arithmetic.proofs.Prepared.{below-most}
 use Rattle.rump.specs.Steps.{isLine}
 use Rattle.rump.proofs.Reach.{reach}
 use Rattle.rump.proofs.Lines.{line-made, power-line}

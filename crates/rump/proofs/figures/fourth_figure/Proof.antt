@@ -2,7 +2,7 @@
 use borrow.Author.Needs.{needs}
 use mathlib.Core.Path.{_≡_, refl, sym, ap, _∙_}
 use mathlib.Core.Bool.{Bool, cond}
-use Rattle.theory.specs.Round.{toward-zero}
+use Rattle.theory.specs.declared.Direction.the-variants.{TowardZero}
 use Rattle.format.specs.declared.Format.{Format}
 use Rattle.number.specs.declared.Number.{Number}
 use Rattle.number.specs.declared.Answer.{Answer}
@@ -16,12 +16,12 @@ use Rattle.rump.proofs.figures.fourth_figure.Tie as tie
 
 -- what is chosen by x + S
 abbrev chosen : Format → Answer → Number → Number → Answer
-chosen f x = choose f (times f toward-zero (gap f x) (power f 1)) (gap f x)
+chosen f x = choose f (times f TowardZero (gap f x) (power f 1)) (gap f x)
 
 abbrev start : tie.After-sum → tie.Start
 start c = c .before .before
 
-raised : (c : tie.After-sum) → let s = start c .args in c .sum .result ≡ plus (s .prepared .format) toward-zero (s .x) (gap (s .prepared .format) (s .x))
+raised : (c : tie.After-sum) → let s = start c .args in c .sum .result ≡ plus (s .prepared .format) TowardZero (s .x) (gap (s .prepared .format) (s .x))
 raised c = both-along _ (c .sum .ensures .0) refl (c .before .gap .ensures .0)
 
 returns : tie.Need-returns
@@ -59,13 +59,13 @@ module _ (c : tie.After-is-same) where
   before = start (sum-of told)
 
   decided : {t : Bool} {r : Answer} → c .is-same .result ≡ t
-      → r ≡ cond t (times (before .args .prepared .format) toward-zero (gap (before .args .prepared .format) (before .args .x)) (power (before .args .prepared .format) 1)) (gap (before .args .prepared .format) (before .args .x))
+      → r ≡ cond t (times (before .args .prepared .format) TowardZero (gap (before .args .prepared .format) (before .args .x)) (power (before .args .prepared .format) 1)) (gap (before .args .prepared .format) (before .args .x))
       → r ≡ figure4 (before .args .prepared .format) (before .args .x)
   unfolding figure4
   decided e h =
       let f = before .args .prepared .format in
       let x = before .args .x in
-      let same = ap (λ (t : Bool). cond t (times f toward-zero (gap f x) (power f 1)) (gap f x)) (sym e ∙ c .is-same .ensures) in
+      let same = ap (λ (t : Bool). cond t (times f TowardZero (gap f x) (power f 1)) (gap f x)) (sym e ∙ c .is-same .ensures) in
       both-along _ (both-values (chosen f x) (told .before .raised .given .1) (c .before .before .x .given .1) (h ∙ same)) (raised (sum-of told)) refl
 
 power-requires : tie.Need-power-requires

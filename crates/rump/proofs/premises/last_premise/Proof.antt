@@ -18,7 +18,7 @@ use Rattle.number.specs.Entry.{Usable}
 use Rattle.number.specs.Numbers.{placeOf, magnitude, greatest, number}
 use Rattle.number.proofs.Membership.{members, known}
 use Rattle.number.proofs.Values.{member-greatest, greatest-wide}
-use Rattle.prepared_arithmetic.proofs.Prepared.{no-magnitude}
+use Rattle.arithmetic.proofs.Prepared.{no-magnitude}
 use Rattle.rump.specs.Premises.{premise}
 use Rattle.rump.proofs.Reach.{last, last-format, last-by}
 use Rattle.rump.proofs.Lines.{Has, number-has, has-size}

@@ -1,0 +1,27 @@
+-- `arithmetic::sum::subtract` meets its contract: the sum with the second number negated.
+use borrow.Author.Needs.{needs}
+use mathlib.Core.Path.{ap, _∙_}
+use lib.IntN.{ℤ, _+ℤ_}
+use Rattle.number.specs.Numbers.{value}
+use Rattle.number.proofs.Membership.{known}
+use Rattle.arithmetic.specs.Operations.{roundedZ}
+use Rattle.arithmetic.proofs.Prepared.{turned-member, turned-value}
+use Rattle.arithmetic.proofs.sum.subtract.Statement.{statement}
+use Rattle.arithmetic.proofs.sum.subtract.Tie as tie
+
+add-requires : tie.Need-add-requires
+add-requires c κs =
+    let s = c .before .before in
+    let p = s .pre in
+    (p .0, p .1, turned-member (known (p .0) .admits) (s .args .b) (p .2) (c .with-sign .ensures))
+
+returns : tie.Need-returns
+returns c =
+    let s = c .before .before .before in
+    let f = s .args .prepared .format in
+    c .add .ensures
+    ∙ ap (λ (v : ℤ). roundedZ f (s .args .direction) (value f (s .args .a) +ℤ v))
+    (turned-value (known (s .pre .0) .admits) (s .args .b) (s .pre .2) (c .before .with-sign .ensures))
+
+pub subtract-spec : {M : Type 1} → statement M
+subtract-spec = tie.close (tie.spec (λ c κs. search needs) add-requires returns)

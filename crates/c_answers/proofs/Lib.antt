@@ -1,1 +1,0 @@
--- The answers' proofs need no laws of their own.

@@ -1,0 +1,32 @@
+-- `c_api::answers::reach_out` meets its contract.
+use borrow.Author.Needs.{needs}
+use mathlib.Core.Path.{sym, ap, _∙_}
+use Prim.Native.Nat.{ℕ}
+use Rattle.saved_lines.specs.declared.LineAnswer.{LineAnswer}
+use Rattle.saved_lines.specs.Lines.{given}
+use Rattle.c_api.specs.Answers.{reachOut}
+use Rattle.c_api.specs.declared.answers.ReachAnswer.{ReachAnswer}
+use Rattle.c_api.proofs.answers.reach_out.Statement.{statement}
+use Rattle.c_api.proofs.answers.reach_out.Tie as tie
+
+abbrev refused : (n : ℕ) → ReachAnswer
+refused n = record { refusal = n; found = 0; indexed = 0; index = 0 }
+
+abbrev refusedAt : (index n : ℕ) → ReachAnswer
+refusedAt index n = record { refusal = n; found = 0; indexed = 1; index = index }
+
+abbrev out : LineAnswer → ReachAnswer
+out answer = reachOut (given answer)
+
+returns : tie.Need-returns
+returns c = sym (ap out (c .before .answer .given .1))
+
+returns-2 : tie.Need-returns-2
+returns-2 c = ap refused (c .refusal-number .ensures) ∙ sym (ap out (c .before .before .answer2 .given .1))
+
+returns-3 : tie.Need-returns-3
+returns-3 c = ap (refusedAt _) (c .refusal-number2 .ensures) ∙ sym (ap out (c .before .before .answer3 .given .1))
+
+pub reach-out-spec : {M : Type 1} → statement M
+reach-out-spec =
+    tie.close (tie.spec (λ c. search needs) (λ c. search needs) (λ c κs. search needs) (λ c. search needs) (λ c κs. search needs) returns returns-2 returns-3)

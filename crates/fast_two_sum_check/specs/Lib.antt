@@ -1,2 +1,0 @@
--- What the check of a three-step sum answers.
-pub mod Calls

@@ -1,0 +1,44 @@
+-- `wide::long_division::cut_division` meets its contract: at the first two ends the quotient is the steps of the cut; where nothing remains
+-- the value is a whole number, and its cut is known.
+use borrow.Author.Needs.{needs}
+use Prim.Native.Nat.{_*_, _^_, _≤_}
+use mathlib.Core.Path.{_≡_, sym, ap, _∙_}
+use native.Mathlib.Nat.{mul-le-mul-left}
+use native.Mathlib.Omega.{arith}
+use Rattle.theory.specs.declared.Location.{Location}
+use Rattle.rounding.specs.Cut.{cutOf}
+use Rattle.rounding.proofs.Scales.{positional}
+use Rattle.wide.proofs.Cuts.{quotient-cut, exact-cut, ended-full}
+use Rattle.wide.proofs.long_division.cut_division.Statement.{statement}
+use Rattle.wide.proofs.long_division.cut_division.Tie as tie
+
+cut-requires : tie.Need-cut-requires
+cut-requires c κs =
+    let s = c .before .before .before in
+    let p = s .pre in
+    let some : 1 ≤ s .args .scale .top = omega (arith, p .3) in
+    (p .0, omega (arith, p .3, mul-le-mul-left (s .args .scale .top) some), omega (arith, p .4), omega arith)
+
+returns : tie.Need-returns
+returns c =
+    λ N D hD e.
+    let s = c .before .before .before .before in
+    let β = s .args .scale .base in
+    let v = s .args .division in
+    let found : c .cut .result ≡ cutOf β (s .args .scale .digits) (v .quotient * β ^ v .place) (β ^ 0) = c .cut .ensures in
+    found ∙ sym (exact-cut (positional (s .pre .0)) hD e (c .before .before .if1 .taken))
+
+locate-requires : tie.Need-locate-requires
+locate-requires c κs = let p = c .before .before .pre in omega (arith, p .1, p .2)
+
+returns-2 : tie.Need-returns-2
+returns-2 c =
+    λ N D hD v.
+    let s = c .before .before .before in
+    let p = s .pre in
+    let a = s .args in
+    ap (λ (l : Location). record { steps = a .division .quotient; place = a .division .place; location = l }) (c .locate .ensures)
+    ∙ sym (quotient-cut (positional (p .0)) hD v (omega (arith, p .3, p .0 .top-power)) (ended-full (p .0) (p .5) (c .before .if1 .left)))
+
+pub cut-division-spec : {M : Type 1} → statement M
+cut-division-spec = tie.close (tie.spec (λ c. search needs) cut-requires returns locate-requires returns-2)

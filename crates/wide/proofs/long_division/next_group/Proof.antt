@@ -1,0 +1,65 @@
+-- `wide::long_division::next_group` meets its contract.
+use borrow.Author.Needs.{needs}
+use borrow.Author.Tests.{leb-true}
+use mathlib.Core.Path.{sym}
+use native.Mathlib.Nat.{mul-le-mul, mul-le-mul-right}
+use native.Mathlib.Omega.{arith}
+use Rattle.rounding.proofs.Scales.{full-top, full-most, power-one}
+use Rattle.wide.proofs.long_division.next_group.Statement.{statement}
+use Rattle.wide.proofs.long_division.next_group.Tie as tie
+
+abbrev start : tie.After-struct-known2 → tie.Start
+start c = c .before .before
+
+mul-next : tie.Need-mul-next
+mul-next c = let h = start c .pre .0 in omega (arith, mul-le-mul (h .top-most) (h .base-most))
+
+returns : tie.Need-returns
+returns c =
+    let h = start (c .before .before .before) .pre .0 in
+    record {
+      power = h .top-power;
+      some = h .digits-least;
+      within = leb-true _ _ (c .before .if2 .taken);
+      room = rw (c .before .before .if1 .taken) (omega arith);
+      word = leb-true _ _ (c .if3 .taken);
+    }
+
+abbrev start₂ : tie.After-struct-known3 → tie.Start
+start₂ c = start (c .before .before)
+
+returns-2 : tie.Need-returns-2
+returns-2 c =
+    let h = start₂ (c .before .before .before) .pre .0 in
+    record {
+      power = h .full-power;
+      some = leb-true _ _ (c .before .if5 .taken);
+      within = leb-true _ _ (c .if6 .taken);
+      room = rw (c .before .before .if4 .taken) (omega (arith, full-most h));
+      word = omega (arith, full-top h, h .top-most);
+    }
+
+returns-3 : tie.Need-returns-3
+returns-3 c =
+    let s = start₂ (c .before) in
+    let h = s .pre .0 in
+    let β = s .args .scale .base in
+    record {
+      power = sym (power-one β);
+      some = omega arith;
+      within = s .pre .2;
+      room = omega (arith, full-top h, mul-le-mul-right β (s .pre .1));
+      word = omega (arith, mul-le-mul (h .base-most) (h .base-most));
+    }
+
+pub next-group-spec : {M : Type 1} → statement M
+next-group-spec =
+    tie.close
+    (tie.spec
+    (λ c. search needs)
+    (λ c. search needs)
+    mul-next
+    returns
+    (λ c. search needs)
+    returns-2
+    returns-3)

@@ -1,0 +1,21 @@
+-- `wide::quotient::divide_shifted` meets its contract: one division.
+use borrow.Author.Needs.{needs}
+use native.Mathlib.Nat.{mul-le-mul-right}
+use native.Mathlib.Omega.{arith}
+use Rattle.rounding.proofs.Scales.{square, square-most}
+use Rattle.wide.proofs.Quotients.{leading-pos}
+use Rattle.wide.proofs.quotient.divide_shifted.Statement.{statement}
+use Rattle.wide.proofs.quotient.divide_shifted.Tie as tie
+
+mul-divide : tie.Need-mul-divide
+mul-divide c =
+    let p = c .pre in
+    omega (arith, p .2, mul-le-mul-right (c .args .scale .top) (p .1 .most), square (p .0), square-most (p .0))
+
+divide-requires : tie.Need-divide-requires
+divide-requires c κs =
+    let p = c .pre in
+    (p .0, leading-pos (p .0) (p .1), omega (arith, p .1 .most, p .0 .top-most), omega (arith, p .2))
+
+pub divide-shifted-spec : {M : Type 1} → statement M
+divide-shifted-spec = tie.close (tie.spec mul-divide divide-requires (λ c. search needs))

@@ -1,0 +1,32 @@
+-- `wide::sum::below_power` meets its contract.
+use borrow.Author.Needs.{needs}
+use Prim.Native.Nat.{ℕ, _^_, _-_}
+use mathlib.Core.Path.{_≡_, sym, ap, _∙_}
+use native.Mathlib.Omega.{arith}
+use Rattle.theory.proofs.Powers.{pow-half}
+use Rattle.rounding.specs.Location.{located}
+use Rattle.rounding.proofs.Locations.{located-above}
+use Rattle.rounding.proofs.Scales.{power-at}
+use Rattle.wide.specs.Sum.{belowPower}
+use Rattle.wide.proofs.sum.below_power.Statement.{statement}
+use Rattle.wide.proofs.sum.below_power.Tie as tie
+
+returns : tie.Need-returns
+unfolding belowPower
+returns c =
+    let s = c .before .before in
+    let h = s .pre .0 in
+    sym (located-above _ _ (omega (arith, s .pre, pow-half (h .base-least) {i = s .args .scale .digits} {j = s .args .gap - 1} (omega arith))))
+
+returns-2 : tie.Need-returns-2
+unfolding belowPower
+returns-2 c =
+    let s = c .before .before .before .before .before in
+    let h = s .pre .0 in
+    let top : s .args .scale .top ≡ s .args .scale .base ^ (s .args .gap - 1) = h .top-power ∙ power-at (s .args .scale .base) (omega arith) in
+    c .locate .ensures ∙ ap (λ (t : ℕ). located (t - s .args .m) t) top
+
+pub below-power-spec : {M : Type 1} → statement M
+below-power-spec =
+    tie.close
+    (tie.spec (λ c. search needs) returns (λ c. search needs) (λ c. search needs) (λ c. search needs) (λ c κs. search needs) returns-2)

@@ -1,0 +1,16 @@
+-- `wide::sum::near_cut` meets its contract: both cuts are that of the value.
+use native.Mathlib.Nat.{mul-le-mul}
+use native.Mathlib.Omega.{arith}
+use Rattle.rounding.proofs.Scales.{unit-most, full-most, square, square-most}
+use borrow.Author.Needs.{needs}
+use Rattle.wide.proofs.sum.near_cut.Statement.{statement}
+use Rattle.wide.proofs.sum.near_cut.Tie as tie
+
+mul-if1 : tie.Need-mul-if1
+mul-if1 c =
+    let p = c .before .pre in
+    omega (arith, mul-le-mul (unit-most (p .0) (p .1)) (full-most (p .0)), square (p .0), square-most (p .0))
+
+pub near-cut-spec : {M : Type 1} → statement M
+near-cut-spec =
+    tie.close (tie.spec (λ c. search needs) mul-if1 (λ c κs. search needs) (λ c. search needs) (λ c κs. search needs) (λ c. search needs))

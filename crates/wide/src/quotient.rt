@@ -1,0 +1,119 @@
+// The quotient: both significands brought to all their digits, and one division.
+use crate::Wide;
+use crate::delivery::deliver;
+use format::Scale;
+use format::Significand;
+use rounding::Cut;
+use rounding::choice::locate;
+use rounding::cutting::divide;
+use rounding::digits::digit_count;
+use rounding::digits::power;
+use theory::Direction;
+use theory::Location;
+ghost use mathlib.Core.Path.{_≡_};
+ghost use Prim.Native.Nat.{_+_, _*_, _<_, _≤_, _^_};
+ghost use Rattle.format.specs.Formats.{Scaled};
+ghost use Rattle.rounding.specs.Cut.{cutOf, dropped};
+ghost use Rattle.rounding.specs.Location.{located};
+ghost use Rattle.wide.specs.Operand.{Operand, sizeOf};
+ghost use Rattle.wide.specs.Quotient.{divided, Leading, Shifted};
+
+// A significand with all its digits, and how many were added.
+pub struct Normal {
+    pub value: u64,
+    pub shift: u32,
+}
+
+// `m` with as many digits more as it lacks.
+fn normalise(scale: Scale, m: Significand) -> Normal
+    requires { ⌜ Scaled scale × (1 ≤ m) × (m < scale .top) ⌝ }
+    ensures { λ r. ⌜ Shifted scale m (r .value) (r .shift) ⌝ }
+{
+    let shift = scale.digits - digit_count(scale, m as u64);
+    Normal {
+        value: m as u64 * power(scale, shift),
+        shift: shift,
+    }
+}
+
+// a * unit divided by b.
+pub fn divide_shifted(scale: Scale, a: u64, b: u64, unit: u64, place: u32) -> Cut
+    requires { ⌜ Scaled scale × Leading scale b × (a * unit < b * scale .top) ⌝ }
+    ensures { λ r. ⌜ r ≡ dropped (a * unit) b place ⌝ }
+{
+    divide(scale, a * unit, b, place)
+}
+
+// Where a lies in b * base ^ e.
+pub fn locate_under(scale: Scale, a: u64, b: u64, e: u32) -> Location
+    requires { ⌜ Scaled scale × Leading scale a × Leading scale b × (1 ≤ e) ⌝ }
+    ensures { λ r. ⌜ r ≡ located a (b * scale .base ^ e) ⌝ }
+{
+    if e == 1 {
+        return locate(a, b * scale.base as u64);
+    }
+    Location::Below
+}
+
+// The cut of a * base ^ high / (b * base ^ low), where a and b have all their digits.
+fn quotient_cut(scale: Scale, a: u64, b: u64, high: u32, low: u32) -> Cut
+    requires { ⌜ Scaled scale × Leading scale a × Leading scale b × (high < 2 ^ 30) × (low < 2 ^ 30) ⌝ }
+    ensures { λ r. ⌜ r ≡ cutOf (scale .base) (scale .digits) (a * scale .base ^ high) (b * scale .base ^ low) ⌝ }
+{
+    let mut digits = scale.digits;
+    let mut unit = scale.top;
+    if b <= a {
+        digits = digits - 1;
+        unit = scale.full;
+    }
+    if low + digits <= high {
+        return divide_shifted(scale, a, b, unit as u64, high - (low + digits));
+    }
+    if low <= high {
+        let part = power(scale, high - low);
+        return divide_shifted(scale, a, b, part, 0);
+    }
+    let location = locate_under(scale, a, b, low - high);
+    Cut {
+        steps: 0,
+        place: 0,
+        location: location,
+    }
+}
+
+// x * base ^ up / (y * base ^ down), rounded, where its cut is at hand.
+pub fn round_quotient(
+    scale: Scale,
+    direction: Direction,
+    x: Wide,
+    y: Wide,
+    up: u32,
+    down: u32,
+    exact: Cut,
+) -> Wide
+    requires { ⌜ Scaled scale × Operand scale x × (1 ≤ y .significand) × (up < 2 ^ 28)
+        × (exact ≡ cutOf (scale .base) (scale .digits) (sizeOf (scale .base) x * scale .base ^ up) (sizeOf (scale .base) y * scale .base ^ down)) ⌝ }
+    ensures { λ r. ⌜ r ≡ divided (scale .base) (scale .digits) direction x y up down ⌝ }
+{
+    deliver(scale, direction, x.negative != y.negative, exact)
+}
+
+// x * base ^ up / (y * base ^ down), rounded.
+pub fn quotient(scale: Scale, direction: Direction, x: Wide, y: Wide, up: u32, down: u32) -> Wide
+    requires { ⌜ Scaled scale × Operand scale x × Operand scale y × (1 ≤ y .significand) × (up < 2 ^ 28) × (down < 2 ^ 28) ⌝ }
+    ensures { λ r. ⌜ r ≡ divided (scale .base) (scale .digits) direction x y up down ⌝ }
+{
+    if x.significand == 0 {
+        return Wide {
+            negative: false,
+            significand: 0,
+            place: 0,
+        };
+    }
+    let a = normalise(scale, x.significand);
+    let b = normalise(scale, y.significand);
+    let high = x.place + up + b.shift;
+    let low = y.place + down + a.shift;
+    let exact = quotient_cut(scale, a.value, b.value, high, low);
+    round_quotient(scale, direction, x, y, up, down, exact)
+}

@@ -1,0 +1,178 @@
+// The sum. Numbers that overlap are added exactly; of numbers far apart only the location of the smaller one counts.
+use crate::SignedCut;
+use crate::Wide;
+use crate::delivery::deliver;
+use format::Scale;
+use format::Significand;
+use rounding::Cut;
+use rounding::choice::locate;
+use rounding::cutting::cut;
+use rounding::cutting::cut_long;
+use rounding::digits::power;
+use theory::Direction;
+use theory::Location;
+ghost use mathlib.Core.Path.{_≡_};
+ghost use Prim.Native.Nat.{_+_, _*_, _<_, _≤_, _^_};
+ghost use lib.IntN.{_+ℤ_};
+ghost use Rattle.format.specs.Formats.{Scaled};
+ghost use Rattle.rounding.specs.Cut.{cutOf};
+ghost use Rattle.rounding.specs.Digits.{Unit};
+ghost use Rattle.wide.specs.Operand.{Operand, valueOf};
+ghost use Rattle.wide.specs.Sum.{Adds, SumCut, summed, belowPower};
+
+// A sign and a magnitude, in any unit.
+pub struct SignedSize {
+    pub negative: bool,
+    pub size: u64,
+}
+
+// The sum of two signed magnitudes of one unit. Both the sum and the difference are worked out, and the struct is made of selected
+// values: made in two branches it would be branched on.
+pub fn add_signed(a: bool, v: u64, b: bool, w: u64) -> SignedSize
+    requires { ⌜ v + w < 2 ^ 64 ⌝ }
+    ensures { λ r. ⌜ Adds a v b w (r .negative) (r .size) ⌝ }
+{
+    let total = v + w;
+    let mut greater = a;
+    let mut difference: u64 = 0;
+    if w <= v {
+        difference = v - w;
+    } else {
+        greater = b;
+        difference = w - v;
+    }
+    let same = a == b;
+    let negative = if same { a } else { greater };
+    let size = if same { total } else { difference };
+    SignedSize {
+        negative: negative,
+        size: size,
+    }
+}
+
+// The cut of n * base ^ place, where unit = base ^ gap: mostly n has `gap` digits beyond the format's, or one more.
+fn near_cut(scale: Scale, n: u64, place: u32, unit: u64, gap: u32) -> Cut
+    requires { ⌜ Scaled scale × Unit scale unit gap × (n < unit * scale .top * scale .base) × (n < scale .top * scale .top) × (place < 2 ^ 28) ⌝ }
+    ensures { λ r. ⌜ r ≡ cutOf (scale .base) (scale .digits) (n * scale .base ^ place) (scale .base ^ 0) ⌝ }
+{
+    if unit * scale.full as u64 <= n {
+        return cut_long(scale, n, place, 0, unit, gap);
+    }
+    cut(scale, n, place, 0)
+}
+
+// The sum of two numbers whose places differ by at most `digits`.
+fn near_sum(scale: Scale, x: Wide, y: Wide, gap: u32) -> SignedCut
+    requires { ⌜ Scaled scale × Operand scale x × Operand scale y × (x .place ≡ y .place + gap) × (gap ≤ scale .digits) ⌝ }
+    ensures { λ r. ⌜ SumCut scale (valueOf (scale .base) x +ℤ valueOf (scale .base) y) r ⌝ }
+{
+    let unit = power(scale, gap);
+    let high = x.significand as u64 * unit;
+    let exact = add_signed(x.negative, high, y.negative, y.significand as u64);
+    SignedCut {
+        negative: exact.negative,
+        cut: near_cut(scale, exact.size, y.place, unit, gap),
+    }
+}
+
+// Where base ^ (gap - 1) - m lies in base ^ (gap - 1).
+fn below_power(scale: Scale, m: Significand, gap: u32) -> Location
+    requires { ⌜ Scaled scale × (m < scale .top) × (scale .digits < gap) ⌝ }
+    ensures { λ r. ⌜ r ≡ belowPower (scale .base) m gap ⌝ }
+{
+    if scale.digits + 1 < gap {
+        return Location::Above;
+    }
+    locate((scale.top - m) as u64, scale.top as u64)
+}
+
+// The sum of two numbers whose places differ by more: |y| is below half a step of x, and below a whole step of the number before x.
+pub fn far_sum(scale: Scale, x: Wide, y: Wide, gap: u32) -> SignedCut
+    requires { ⌜ Scaled scale × Operand scale x × Operand scale y × (x .place ≡ y .place + gap) × (scale .digits < gap) × (1 ≤ y .significand) ⌝ }
+    ensures { λ r. ⌜ SumCut scale (valueOf (scale .base) x +ℤ valueOf (scale .base) y) r ⌝ }
+{
+    let m = x.significand;
+    let place = x.place;
+    let negative = x.negative;
+    let differ = negative != y.negative;
+    if differ & (m <= scale.full) {
+        let cut = Cut {
+            steps: scale.top - 1,
+            place: place - 1,
+            location: below_power(scale, y.significand, gap),
+        };
+        return SignedCut {
+            negative: negative,
+            cut: cut,
+        };
+    }
+    let location = if differ {
+        Location::Above
+    } else {
+        Location::Below
+    };
+    let cut = Cut {
+        steps: m - differ as Significand,
+        place: place,
+        location: location,
+    };
+    SignedCut {
+        negative: negative,
+        cut: cut,
+    }
+}
+
+// The sum of two numbers, the one with the higher place first.
+fn ordered_sum(scale: Scale, x: Wide, y: Wide) -> SignedCut
+    requires { ⌜ Scaled scale × Operand scale x × Operand scale y × (y .place ≤ x .place) ⌝ }
+    ensures { λ r. ⌜ SumCut scale (valueOf (scale .base) x +ℤ valueOf (scale .base) y) r ⌝ }
+{
+    let gap = x.place - y.place;
+    if gap <= scale.digits {
+        return near_sum(scale, x, y, gap);
+    }
+    if y.significand == 0 {
+        let cut = Cut {
+            steps: x.significand,
+            place: x.place,
+            location: Location::Exact,
+        };
+        return SignedCut {
+            negative: x.negative,
+            cut: cut,
+        };
+    }
+    far_sum(scale, x, y, gap)
+}
+
+// The sum of two numbers, in either order.
+fn sum_cut(scale: Scale, x: Wide, y: Wide) -> SignedCut
+    requires { ⌜ Scaled scale × Operand scale x × Operand scale y ⌝ }
+    ensures { λ r. ⌜ SumCut scale (valueOf (scale .base) x +ℤ valueOf (scale .base) y) r ⌝ }
+{
+    let mut high = x;
+    let mut low = y;
+    if x.place < y.place {
+        high = y;
+        low = x;
+    }
+    ordered_sum(scale, high, low)
+}
+
+// x + y, rounded, where its cut is at hand.
+pub fn round_sum(scale: Scale, direction: Direction, x: Wide, y: Wide, exact: SignedCut) -> Wide
+    requires { ⌜ Scaled scale × Operand scale x × Operand scale y × SumCut scale (valueOf (scale .base) x +ℤ valueOf (scale .base) y) exact ⌝ }
+    ensures { λ r. ⌜ r ≡ summed (scale .base) (scale .digits) direction x y ⌝ }
+{
+    let cut = exact.cut;
+    deliver(scale, direction, exact.negative, cut)
+}
+
+// x + y, rounded.
+pub fn sum(scale: Scale, direction: Direction, x: Wide, y: Wide) -> Wide
+    requires { ⌜ Scaled scale × Operand scale x × Operand scale y ⌝ }
+    ensures { λ r. ⌜ r ≡ summed (scale .base) (scale .digits) direction x y ⌝ }
+{
+    let exact = sum_cut(scale, x, y);
+    round_sum(scale, direction, x, y, exact)
+}

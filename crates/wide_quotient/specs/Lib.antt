@@ -1,2 +1,0 @@
--- What a long division has found. The other definitions stand in `wide`.
-pub mod Division

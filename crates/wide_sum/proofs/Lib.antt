@@ -1,1 +1,0 @@
--- The proofs cite the laws of `wide`.

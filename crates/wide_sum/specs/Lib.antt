@@ -1,1 +1,0 @@
--- The definitions stand in `wide`.
