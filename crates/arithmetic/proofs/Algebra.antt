@@ -1,46 +1,38 @@
 -- Sum and product commute, the difference is the sum with the second number negated, and x + 0, x × 1 and x ÷ 1 are x.
-use Prim.Native.Nat.{ℕ, zero, suc, _+_, _^_, _-_, _≤_, _<_}
-use mathlib.Core.Path.{_≡_, refl, sym, ap, ap₂, _∙_}
-use mathlib.Core.Bool.{Bool, true, false, not, xor}
-use mathlib.Core.List.{List, [], _∷_}
-use native.Mathlib.Nat.{mul-comm, mul-le-mul-right, pow-zero}
-use native.Mathlib.Decide.{decLe}
-use native.Mathlib.Omega.{arith}
-use lib.IntN.{ℤ, pos, negℤ, natAbs, _+ℤ_, _-ℤ_, +ℤ-comm}
+use Rattle.theory.proofs.Prelude.{ℕ, _≤_, _<_, _+_, _^_, _-_, suc, zero, true, false, Bool, not, xor, [], _∷_, List, _∙_, ap, _≡_, sym, refl, ap₂, decLe, mul-le-mul-right, pow-zero, mul-comm, arith, ℤ, pos, _+ℤ_, natAbs, _-ℤ_, negℤ, +ℤ-comm}
 use Rattle.theory.specs.Lists.{all}
 use Rattle.theory.specs.Tests.{_and_}
 use Rattle.theory.specs.Signed.{signed}
+use Rattle.theory.proofs.Tests.{and-left}
 use Rattle.theory.proofs.Powers.{pow-add, pow-pos, pow-mono, pow-half}
 use Rattle.theory.proofs.Wide.{wide-pow}
 use Rattle.theory.proofs.Integers.{above, neg-above, size-parts, size-signed}
 use Rattle.format.specs.declared.Format.{Format}
-use Rattle.format.specs.declared.Verdict.{Verdict}
-use Rattle.format.specs.declared.Verdict.the-variants as verdict
-use Rattle.format.specs.declared.Preparation.the-variants as prepared
-use Rattle.format.specs.Formats.{preparedOf, highestPlace}
+use Rattle.format.specs.Formats.{highestPlace}
+use Rattle.format.specs.Given.{Given, gives}
 use Rattle.format.specs.Directions.{direction}
 use Rattle.format.proofs.Formats.{Admitted, admits, positional, distances}
+use Rattle.format.proofs.GivenLaws.{gives-same, gives-not-refused}
 use Rattle.number.specs.declared.Number.{Number}
-use Rattle.number.specs.declared.Answer.the-variants.{Value, Refused}
 use Rattle.number.specs.Exponents.{aboveZero, belowZero}
 use Rattle.number.specs.Numbers.{member, magnitude, value, greatest, number}
-use Rattle.number.specs.Entry.{entry, after, entered}
+use Rattle.number.specs.Checks.{checked, Checks, not-admitted, no-direction, not-member, all-passed}
 use Rattle.number.specs.Signs.{negated}
 use Rattle.number.proofs.Membership.{Member, members, member-made}
 use Rattle.number.proofs.Values.{member-greatest, number-value, number-member}
-use Rattle.number.proofs.Entries.{Passed, passed, one-member}
+use Rattle.number.proofs.CheckLaws.{checks-end}
 use Rattle.number.proofs.Negation.{signed-member, negated-value}
 use Rattle.wide.proofs.Signs.{sum-none}
 use Rattle.wide.proofs.Sizes.{greatest-below}
 use Rattle.arithmetic.specs.Operations.{roundedZ, roundedProduct, summed, subtracted, multiplied, divided}
 use Rattle.arithmetic.proofs.Prepared.{no-magnitude, parts-above, parts-below, divisor-positive, divisor-some}
 use Rattle.arithmetic.proofs.Outcome.{rounded-exact, roundedZ-exact}
-use Rattle.arithmetic.proofs.Calls.{Checked, entry-passed}
+use Rattle.arithmetic.proofs.Calls.{Checked, call-passed}
 
 -- the checks depend on what the numbers' tests say together
-entry-same : (f : Format) (d : ℕ) (xs ys : List Number) → all (member f) xs ≡ all (member f) ys → entry f (d ∷ []) xs ≡ entry f (d ∷ []) ys
-unfolding entry
-entry-same f d xs ys e = rw e
+checked-same : (f : Format) (d : ℕ) (xs ys : List Number) → all (member f) xs ≡ all (member f) ys → {g h : Given Number} → g ≡ h → checked f (d ∷ []) xs g ≡ checked f (d ∷ []) ys h
+unfolding checked
+checked-same f d xs ys e k = rw (e, k)
 
 -- ---- sum and product commute, refused or not
 and-swap : (s t : Bool) → s and t and true ≡ t and s and true
@@ -58,40 +50,35 @@ xor-swap false true = refl
 xor-swap false false = refl
 
 module _ (f : Format) (d : ℕ) (a b : Number) where
-  entry-swap : entry f (d ∷ []) (a ∷ b ∷ []) ≡ entry f (d ∷ []) (b ∷ a ∷ [])
+  checked-swap : {g h : Given Number} → g ≡ h → checked f (d ∷ []) (a ∷ b ∷ []) g ≡ checked f (d ∷ []) (b ∷ a ∷ []) h
   unfolding all
-  entry-swap = entry-same f d (a ∷ b ∷ []) (b ∷ a ∷ []) (and-swap (member f a) (member f b))
+  checked-swap = checked-same f d (a ∷ b ∷ []) (b ∷ a ∷ []) (and-swap (member f a) (member f b))
 
   pub summed-commutes : summed f d a b ≡ summed f d b a
   unfolding summed
-  summed-commutes = ap₂ (λ (v : Verdict) (z : ℤ). after v Refused (roundedZ f (direction d) z)) entry-swap (+ℤ-comm (value f a) (value f b))
+  summed-commutes = checked-swap (ap (roundedZ f (direction d)) (+ℤ-comm (value f a) (value f b)))
 
   pub multiplied-commutes : multiplied f d a b ≡ multiplied f d b a
   unfolding multiplied roundedProduct
-  multiplied-commutes = rw (entry-swap, xor-swap (a .negative) (b .negative), mul-comm (magnitude f a) (magnitude f b))
+  multiplied-commutes = checked-swap (rw (xor-swap (a .negative) (b .negative), mul-comm (magnitude f a) (magnitude f b)))
 
   -- ---- the difference is the sum with the second number negated
-  pub subtracted-negated : {c : Number} → negated f b ≡ Value c → subtracted f d a b ≡ summed f d a c
-  unfolding negated subtracted summed entered after all
-  subtracted-negated {c} h = go (entry f [] (b ∷ [])) refl
+  pub subtracted-negated : {c : Number} → negated f b ≡ gives c → subtracted f d a b ≡ summed f d a c
+  unfolding negated subtracted summed all
+  subtracted-negated {c} h = go (checks-end f [] (b ∷ []) (gives (number f (not (b .negative)) (magnitude f b)))) h
     where
-      turned : Passed f [] (b ∷ []) (preparedOf f) → Value (number f (not (b .negative)) (magnitude f b)) ≡ Value c → subtracted f d a b ≡ summed f d a c
-      turned p e =
-          let ok = admits f (p .format) in
-          let i = members b ok (one-member p) in
-          let same : number f (not (b .negative)) (magnitude f b) ≡ c = cc in
+      go : {g : Given Number} → Checks f [] (b ∷ []) (gives (number f (not (b .negative)) (magnitude f b))) g → g ≡ gives c → subtracted f d a b ≡ summed f d a c
+      go (not-admitted n) e = absurd (gives-not-refused (sym e))
+      go (no-direction n m) e = absurd (gives-not-refused (sym e))
+      go (not-member n m l) e = absurd (gives-not-refused (sym e))
+      go (all-passed n m l) e =
+          let ok = admits f n in
+          let in-b : member f b ≡ true = and-left _ _ l in
+          let i = members b ok in-b in
+          let same : number f (not (b .negative)) (magnitude f b) ≡ c = gives-same e in
           let in-format : member f c ≡ true = rw (← same) (member-made _ ok (signed-member ok i (not (b .negative)))) in
           let turned-value : value f c ≡ negℤ (value f b) = rw (← same) (negated-value ok i) in
-          ap₂ (λ (v : Verdict) (z : ℤ). after v Refused (roundedZ f (direction d) (value f a +ℤ z)))
-          (entry-same f d (a ∷ b ∷ []) (a ∷ c ∷ []) (rw (one-member p, in-format))) (sym turned-value)
-
-      go : (v : Verdict) → entry f [] (b ∷ []) ≡ v → subtracted f d a b ≡ summed f d a c
-      go verdict.Passed e =
-          turned (passed f [] (b ∷ []) (ap (λ (v : Verdict). after v prepared.Refused (prepared.Ready (preparedOf f))) e))
-          (sym (ap (λ (v : Verdict). after v Refused (Value (number f (not (b .negative)) (magnitude f b)))) e) ∙ h)
-      go (verdict.Refused why) e =
-          let k : Refused why ≡ Value c = sym (ap (λ (v : Verdict). after v Refused (Value (number f (not (b .negative)) (magnitude f b)))) e) ∙ h in
-          absurd (let z : _≡_ {A = ℕ} 0 1 = cc in omega arith)
+          checked-same f d (a ∷ b ∷ []) (a ∷ c ∷ []) (rw (in-b, in-format)) (ap (λ (z : ℤ). roundedZ f (direction d) (value f a +ℤ z)) (sym turned-value))
 
 -- ---- zero and one
 -- u is 1, which is β ^ -Emin units: no format with Emin above 0 has it
@@ -129,12 +116,12 @@ module _ {f : Format} (ok : Admitted f) {u : Number} (o : One f u) where
       by (suc m) e = omega arith
 
 module _ {f : Format} {d : ℕ} {x u : Number} (c : Checked f d x u) where
-  pub summed-zero : u .significand ≡ 0 → summed f d x u ≡ Value x
-  unfolding summed after value
+  pub summed-zero : u .significand ≡ 0 → summed f d x u ≡ gives x
+  unfolding summed value
   summed-zero z =
       let same : value f x +ℤ value f u ≡ value f x =
       rw (no-magnitude f u z) (sum-none (x .negative) (u .negative) (magnitude f x)) in
-      rw (entry-passed f d x u c, after) (roundedZ-exact (c .admits) (direction d) (c .first) (value f x +ℤ value f u) same)
+      rw (call-passed f d x u c) (roundedZ-exact (c .admits) (direction d) (c .first) (value f x +ℤ value f u) same)
 
   -- the exact result has the sign and the magnitude of x
   module _ (o : One f u) where
@@ -142,18 +129,18 @@ module _ {f : Format} {d : ℕ} {x u : Number} (c : Checked f d x u) where
     unfolding value
     own = rw (xor-plus (x .negative) (u .negative) (one-plus (c .admits) o))
 
-    pub multiplied-one : multiplied f d x u ≡ Value x
-    unfolding multiplied after roundedProduct
+    pub multiplied-one : multiplied f d x u ≡ gives x
+    unfolding multiplied roundedProduct
     multiplied-one =
-        rw (entry-passed f d x u c, after)
+        rw (call-passed f d x u c)
         (rounded-exact (c .admits) (direction d) (c .first) _ _ (pow-pos (c .admits .base-low) (belowZero (f .emin)))
         (rw (one-unit (c .admits) o, one-size (c .admits) o) (omega arith)) own)
 
-    pub divided-one : divided f d x u ≡ Value x
-    unfolding divided after
+    pub divided-one : divided f d x u ≡ gives x
+    unfolding divided
     divided-one =
         let some = one-some (c .admits) o in
-        rw (entry-passed f d x u c, after, divisor-some (c .admits) (direction d) x u some)
+        rw (call-passed f d x u c, divisor-some (c .admits) (direction d) x u some)
         (rounded-exact (c .admits) (direction d) (c .first) _ _ (divisor-positive (c .admits) u some)
         (rw (one-unit (c .admits) o, one-size (c .admits) o) (omega arith)) own)
 

@@ -1,37 +1,28 @@
 -- What the answers of the four public calls say: each is the exact result N / D units, rounded. In units of β ^ Emin the sum of
 -- the numbers a and b is a + b, their product a × b × β ^ Emin, and their quotient q has q × b × β ^ Emin = a.
-use Prim.Native.Nat.{ℕ, zero, suc, _^_, _*_, _≤_, _<_}
-use mathlib.Core.Path.{_≡_, refl, sym, ap, _∙_}
-use mathlib.Core.Bool.{Bool, true, false, xor}
-use mathlib.Core.List.{[], _∷_}
-use native.Mathlib.Omega.{arith}
-use lib.IntN.{ℤ, pos, natAbs, _+ℤ_, _-ℤ_, _*ℤ_}
+use Rattle.theory.proofs.Prelude.{ℕ, _≤_, _<_, _^_, _*_, suc, zero, true, false, Bool, xor, [], _∷_, _∙_, ap, _≡_, sym, refl, arith, ℤ, pos, _+ℤ_, natAbs, _-ℤ_, _*ℤ_}
 use Rattle.theory.specs.Lists.{all}
-use Rattle.theory.specs.Tests.{_and_, unless}
+use Rattle.theory.specs.Tests.{_and_}
 use Rattle.theory.specs.Signed.{signed, roundZ}
 use Rattle.theory.proofs.Tests.{and-left, and-right}
 use Rattle.theory.proofs.Powers.{pow-pos}
 use Rattle.theory.proofs.Integers.{scale-signed}
 use Rattle.format.specs.declared.Format.{Format}
-use Rattle.format.specs.declared.Refusal.{Refusal}
-use Rattle.format.specs.declared.Refusal.the-variants.{FormatNotAdmitted, NoSuchDirection, NumberNotInFormat, DivisorZero, TooLarge}
-use Rattle.format.specs.declared.Verdict.the-variants as verdict
-use Rattle.format.specs.Refusals.{refusalNumber}
-use Rattle.format.specs.Formats.{admitted}
+use Rattle.format.specs.Given.{Given, gives, refused}
 use Rattle.format.specs.Directions.{isDirection, direction}
 use Rattle.format.proofs.Formats.{Admitted, admits, admitted-made}
+use Rattle.format.proofs.GivenLaws.{gives-not-refused}
 use Rattle.number.specs.declared.Number.{Number}
-use Rattle.number.specs.declared.Answer.{Answer}
-use Rattle.number.specs.declared.Answer.the-variants.{Value, Refused}
 use Rattle.number.specs.Exponents.{aboveZero, belowZero}
 use Rattle.number.specs.Numbers.{member, magnitude, value, greatest}
-use Rattle.number.specs.Entry.{entry, after}
+use Rattle.number.specs.Checks.{checked, Checks, not-admitted, no-direction, not-member, all-passed}
 use Rattle.number.proofs.Membership.{Member, members, member-made}
-use Rattle.number.proofs.Entries.{pair-made, entry-made}
+use Rattle.number.proofs.CheckLaws.{checked-passed, checks-end, pair-made}
 use Rattle.wide.proofs.Signs.{signed-times}
 use Rattle.arithmetic.specs.Operations.{roundedProduct, roundedQuotient, summed, subtracted, multiplied, divided}
+use Rattle.arithmetic.specs.Outcomes.{RoundedNumber, Outcome}
 use Rattle.arithmetic.proofs.Prepared.{divisor-positive, divisor-some, divisor-none}
-use Rattle.arithmetic.proofs.Outcome.{Given, Outcome, outcome-given, outcome-refused, outcome-only, rounded-outcome, roundedZ-outcome}
+use Rattle.arithmetic.proofs.Outcome.{outcome-given, outcome-refused, outcome-only, rounded-outcome, roundedZ-outcome}
 
 -- what the checks ask: an admitted format, a direction and two numbers of the format
 pub record Checked (f : Format) (d : ℕ) (a b : Number) : Type 0 where
@@ -40,43 +31,38 @@ pub record Checked (f : Format) (d : ℕ) (a b : Number) : Type 0 where
   pub first : Member f a
   pub second : Member f b
 
--- a call ends with refusal 1, 2 or 3, or has the answer of what comes after the checks
-pub data Call (f : Format) (d : ℕ) (a b : Number) (rest : Answer) : Answer → Type 0 where
-  ends : (why : Refusal) → refusalNumber why ≤ 3 → Call f d a b rest (Refused why)
+-- a call ends with refusal 1, 2 or 3, or gives what comes after the checks
+pub data Call (f : Format) (d : ℕ) (a b : Number) (rest : Given Number) : Given Number → Type 0 where
+  ends : {n : ℕ} → n ≤ 3 → Call f d a b rest (refused n)
   goes-on : Checked f d a b → Call f d a b rest rest
 
 module _ (f : Format) (d : ℕ) (a b : Number) where
-  pub call : (rest : Answer) → Call f d a b rest (after (entry f (d ∷ []) (a ∷ b ∷ [])) Refused rest)
-  unfolding entry all after unless
-  call rest = by (admitted f) (isDirection d and true) (member f a and member f b and true) refl refl refl
+  pub call : (rest : Given Number) → Call f d a b rest (checked f (d ∷ []) (a ∷ b ∷ []) rest)
+  unfolding all
+  call rest = by (checks-end f (d ∷ []) (a ∷ b ∷ []) rest)
     where
-      checks : admitted f ≡ true → isDirection d and true ≡ true → member f a and member f b and true ≡ true → Checked f d a b
-      checks x y z =
-          let ok = admits f x in
-          record { admits = ok; directed = and-left _ _ y; first = members a ok (and-left _ _ z); second = members b ok (and-left _ _ (and-right _ _ z)) }
+      by : {g : Given Number} → Checks f (d ∷ []) (a ∷ b ∷ []) rest g → Call f d a b rest g
+      by (not-admitted h) = ends {n = 1} (omega arith)
+      by (no-direction h k) = ends {n = 2} (omega arith)
+      by (not-member h k l) = ends {n = 3} (omega arith)
+      by (all-passed h k l) =
+          let ok = admits f h in
+          goes-on (record { admits = ok; directed = and-left _ _ k; first = members a ok (and-left _ _ l); second = members b ok (and-left _ _ (and-right _ _ l)) })
 
-      by : (x y z : Bool) → admitted f ≡ x → isDirection d and true ≡ y → member f a and member f b and true ≡ z
-          → Call f d a b rest
-          (after (unless x (verdict.Refused FormatNotAdmitted) (unless y (verdict.Refused NoSuchDirection) (unless z (verdict.Refused NumberNotInFormat) verdict.Passed))) Refused rest)
-      by true true true h k l = goes-on (checks h k l)
-      by true true false h k l = ends NumberNotInFormat (omega arith)
-      by true false z h k l = ends NoSuchDirection (omega arith)
-      by false y z h k l = ends FormatNotAdmitted (omega arith)
-
-  pub entry-passed : Checked f d a b → entry f (d ∷ []) (a ∷ b ∷ []) ≡ verdict.Passed
+  pub call-passed : Checked f d a b → (rest : Given Number) → checked f (d ∷ []) (a ∷ b ∷ []) rest ≡ rest
   unfolding all _and_
-  entry-passed c =
-      entry-made f (d ∷ []) (a ∷ b ∷ []) (admitted-made (c .admits)) (rw (c .directed, _and_))
+  call-passed c rest =
+      checked-passed f (d ∷ []) (a ∷ b ∷ []) rest (admitted-made (c .admits)) (rw (c .directed, _and_))
       (pair-made f a b (member-made a (c .admits) (c .first)) (member-made b (c .admits) (c .second)))
 
-module _ {f : Format} {d : ℕ} {a b : Number} {rest : Answer} where
-  pub call-given : {r : Answer} {x : Number} → Call f d a b rest r → r ≡ Value x → Checked f d a b × (rest ≡ Value x)
-  call-given (ends why h) e = absurd (let z : _≡_ {A = ℕ} 0 1 = cc in omega arith)
+module _ {f : Format} {d : ℕ} {a b : Number} {rest : Given Number} where
+  pub call-given : {r : Given Number} {x : Number} → Call f d a b rest r → r ≡ gives x → Checked f d a b × (rest ≡ gives x)
+  call-given (ends h) e = absurd (gives-not-refused (sym e))
   call-given (goes-on c) e = (c, e)
 
-  pub call-refused : {r : Answer} (why : Refusal) → 3 < refusalNumber why → Call f d a b rest r → r ≡ Refused why → Checked f d a b × (rest ≡ Refused why)
-  call-refused why l (ends other h) e = absurd (let same : other ≡ why = cc in omega (arith, ap refusalNumber same))
-  call-refused why l (goes-on c) e = (c, e)
+  pub call-refused : {r : Given Number} (n : ℕ) → 3 < n → Call f d a b rest r → r ≡ refused n → Checked f d a b × (rest ≡ refused n)
+  call-refused n l (ends {n = m} h) e = absurd (let same : m ≡ n = cc in omega arith)
+  call-refused n l (goes-on c) e = (c, e)
 
 -- ---- exact results with their signs
 twice : (s t : Bool) → xor (xor s t) t ≡ s
@@ -94,32 +80,31 @@ times-back s t m n u w =
     left ∙ ap (signed s) (omega arith) ∙ sym right
 
 -- r is the answer of a call whose exact result is N / D units
-pub record Rounds (f : Format) (d : ℕ) (a b : Number) (N : ℤ) (D : ℕ) (r : Answer) : Type 0 where
+pub record CallRounds (f : Format) (d : ℕ) (a b : Number) (N : ℤ) (D : ℕ) (r : Given Number) : Type 0 where
   -- where the checks are passed: the rounded value, or refusal 5 where its magnitude is above the greatest number
   pub outcome : Checked f d a b → Outcome f (direction d) N D r
   -- a number is given where the checks are passed, and is the rounded value
-  pub passed : {x : Number} → r ≡ Value x → Checked f d a b
-  pub given : {x : Number} → r ≡ Value x → Given f (direction d) N D x
+  pub passed : {x : Number} → r ≡ gives x → Checked f d a b
+  pub given : {x : Number} → r ≡ gives x → RoundedNumber f (direction d) N D x
   -- refusal 5 is given above the greatest number only
-  pub refused : r ≡ Refused TooLarge → greatest f < natAbs (roundZ (f .base) (f .digits) (direction d) N D)
+  pub refused : r ≡ refused 5 → greatest f < natAbs (roundZ (f .base) (f .digits) (direction d) N D)
 
 module _ (f : Format) (d : ℕ) (a b : Number) where
-  rounds : {N : ℤ} {D : ℕ} {rest : Answer} → (Checked f d a b → Outcome f (direction d) N D rest)
-      → Rounds f d a b N D (after (entry f (d ∷ []) (a ∷ b ∷ [])) Refused rest)
-  unfolding after
+  rounds : {N : ℤ} {D : ℕ} {rest : Given Number} → (Checked f d a b → Outcome f (direction d) N D rest)
+      → CallRounds f d a b N D (checked f (d ∷ []) (a ∷ b ∷ []) rest)
   rounds {N} {D} {rest} h =
       record {
-        outcome = λ c. rw (entry-passed f d a b c, after) (h c);
+        outcome = λ c. rw (call-passed f d a b c rest) (h c);
         passed = λ e. call-given (call f d a b rest) e .0;
         given = λ e. let k = call-given (call f d a b rest) e in outcome-given (h (k .0)) (k .1);
-        refused = λ e. let k = call-refused TooLarge (omega arith) (call f d a b rest) e in outcome-refused (h (k .0)) (k .1);
+        refused = λ e. let k = call-refused 5 (omega arith) (call f d a b rest) e in outcome-refused (h (k .0)) (k .1);
       }
 
-  pub summed-rounds : Rounds f d a b (value f a +ℤ value f b) 1 (summed f d a b)
+  pub summed-rounds : CallRounds f d a b (value f a +ℤ value f b) 1 (summed f d a b)
   unfolding summed
   summed-rounds = rounds (λ c. roundedZ-outcome (c .admits) (direction d) (value f a +ℤ value f b))
 
-  pub subtracted-rounds : Rounds f d a b (value f a -ℤ value f b) 1 (subtracted f d a b)
+  pub subtracted-rounds : CallRounds f d a b (value f a -ℤ value f b) 1 (subtracted f d a b)
   unfolding subtracted
   subtracted-rounds = rounds (λ c. roundedZ-outcome (c .admits) (direction d) (value f a -ℤ value f b))
 
@@ -132,13 +117,13 @@ module _ (f : Format) (d : ℕ) (a b : Number) where
       (ap (λ (z : ℤ). z *ℤ pos (f .base ^ aboveZero (f .emin))) (signed-times (a .negative) (b .negative) (magnitude f a) (magnitude f b))
       ∙ scale-signed (xor (a .negative) (b .negative)) (magnitude f a * magnitude f b) (f .base ^ aboveZero (f .emin)))
 
-  pub multiplied-rounds : Rounds f d a b (value f a *ℤ value f b *ℤ pos (f .base ^ aboveZero (f .emin))) (f .base ^ belowZero (f .emin)) (multiplied f d a b)
+  pub multiplied-rounds : CallRounds f d a b (value f a *ℤ value f b *ℤ pos (f .base ^ aboveZero (f .emin))) (f .base ^ belowZero (f .emin)) (multiplied f d a b)
   unfolding multiplied roundedProduct
   multiplied-rounds = rounds (λ c. rw (← product-signed) (rounded-outcome (c .admits) (direction d) _ _ (pow-pos (c .admits .base-low) (belowZero (f .emin)))))
 
   -- ---- the quotient, by a divisor that is not zero
   pub divided-rounds : 1 ≤ b .significand
-      → Rounds f d a b (signed (xor (a .negative) (b .negative)) (magnitude f a * f .base ^ belowZero (f .emin))) (magnitude f b * f .base ^ aboveZero (f .emin)) (divided f d a b)
+      → CallRounds f d a b (signed (xor (a .negative) (b .negative)) (magnitude f a * f .base ^ belowZero (f .emin))) (magnitude f b * f .base ^ aboveZero (f .emin)) (divided f d a b)
   unfolding divided
   divided-rounds h =
       rounds (λ c. rw (divisor-some (c .admits) (direction d) a b h) (rounded-outcome (c .admits) (direction d) _ _ (divisor-positive (c .admits) b h)))
@@ -150,30 +135,29 @@ module _ (f : Format) (d : ℕ) (a b : Number) where
   unfolding value
   quotient-times-divisor = times-back (a .negative) (b .negative) (magnitude f a) (magnitude f b) (f .base ^ belowZero (f .emin)) (f .base ^ aboveZero (f .emin))
 
-  pub divided-some : {x : Number} → divided f d a b ≡ Value x → 1 ≤ b .significand
+  pub divided-some : {x : Number} → divided f d a b ≡ gives x → 1 ≤ b .significand
   unfolding divided
   divided-some {x} e = by (b .significand) refl (call-given (call f d a b (roundedQuotient f (direction d) a b)) e .1)
     where
-      by : (m : ℕ) → b .significand ≡ m → roundedQuotient f (direction d) a b ≡ Value x → 1 ≤ b .significand
+      by : (m : ℕ) → b .significand ≡ m → roundedQuotient f (direction d) a b ≡ gives x → 1 ≤ b .significand
       by zero h r =
-          let k : Refused DivisorZero ≡ Value x = sym (divisor-none f (direction d) a b h) ∙ r in
-          absurd (let z : _≡_ {A = ℕ} 0 1 = cc in omega arith)
+          absurd (gives-not-refused (sym r ∙ divisor-none f (direction d) a b h))
       by (suc m) h r = omega arith
 
   -- refusal 4 exactly where the divisor is zero
-  pub divided-by-zero : Checked f d a b → b .significand ≡ 0 → divided f d a b ≡ Refused DivisorZero
-  unfolding divided after
-  divided-by-zero c h = rw (entry-passed f d a b c, after) (divisor-none f (direction d) a b h)
+  pub divided-by-zero : Checked f d a b → b .significand ≡ 0 → divided f d a b ≡ refused 4
+  unfolding divided
+  divided-by-zero c h = call-passed f d a b c _ ∙ divisor-none f (direction d) a b h
 
-  pub divided-refused : divided f d a b ≡ Refused DivisorZero → b .significand ≡ 0
+  pub divided-refused : divided f d a b ≡ refused 4 → b .significand ≡ 0
   unfolding divided
   divided-refused e =
-      let k = call-refused DivisorZero (omega arith) (call f d a b (roundedQuotient f (direction d) a b)) e in
+      let k = call-refused 4 (omega arith) (call f d a b (roundedQuotient f (direction d) a b)) e in
       by (b .significand) refl (k .0) (k .1)
     where
-      by : (m : ℕ) → b .significand ≡ m → Checked f d a b → roundedQuotient f (direction d) a b ≡ Refused DivisorZero → b .significand ≡ 0
+      by : (m : ℕ) → b .significand ≡ m → Checked f d a b → roundedQuotient f (direction d) a b ≡ refused 4 → b .significand ≡ 0
       by zero h c r = h
       by (suc m) h c r =
           let some : 1 ≤ b .significand = omega arith in
           let other = outcome-only (rounded-outcome (c .admits) (direction d) _ _ (divisor-positive (c .admits) b some)) (sym (divisor-some (c .admits) (direction d) a b some) ∙ r) in
-          absurd (omega (arith, ap refusalNumber other))
+          absurd (omega (arith, other))

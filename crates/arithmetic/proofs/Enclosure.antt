@@ -1,58 +1,53 @@
 -- Direction 4 gives at most the exact result of an operation and direction 3 at least it; and sums are monotone.
-use Prim.Native.Nat.{ℕ}
-use mathlib.Core.Path.{_≡_}
-use native.Mathlib.Omega.{arith}
-use lib.IntN.{ℤ, pos, _+ℤ_, _*ℤ_}
-use lib.Signed.{_≤ℤ_}
+use Rattle.theory.proofs.Prelude.{ℕ, _≡_, arith, ℤ, pos, _+ℤ_, _*ℤ_, _≤ℤ_}
 use Rattle.theory.specs.declared.Direction.{Direction}
 use Rattle.theory.specs.declared.Direction.the-variants.{Upward, Downward}
 use Rattle.theory.proofs.Integers.{sum-parts, le-parts, parts-le, scale-le-parts, scale-ge-parts, scale-above, scale-below}
 use Rattle.theory.proofs.Signed.{downward-le, le-upward, roundZ-mono}
 use Rattle.format.specs.declared.Format.{Format}
 use Rattle.format.specs.Directions.{direction}
-use Rattle.format.proofs.Formats.{positional}
+use Rattle.format.specs.Given.{Given, gives}
+use Rattle.format.proofs.Formats.{Admitted, positional}
 use Rattle.number.specs.declared.Number.{Number}
-use Rattle.number.specs.declared.Answer.{Answer}
-use Rattle.number.specs.declared.Answer.the-variants.{Value}
 use Rattle.number.specs.Numbers.{value}
 use Rattle.arithmetic.specs.Operations.{summed}
-use Rattle.arithmetic.proofs.Outcome.{Given}
-use Rattle.arithmetic.proofs.Calls.{Rounds, summed-rounds}
+use Rattle.arithmetic.specs.Outcomes.{RoundedNumber}
+use Rattle.arithmetic.proofs.Calls.{CallRounds, summed-rounds}
 
 -- ---- every operation, by the fraction N / D that its answer rounds
-pub given-down : {f : Format} {N : ℤ} {D : ℕ} {x : Number} → Given f Downward N D x → (value f x *ℤ pos D) ≤ℤ N
-given-down {N} g = rw (g .value) (downward-le (positional (g .admits)) (g .divisor) N)
+pub given-down : {f : Format} {N : ℤ} {D : ℕ} {x : Number} → Admitted f → RoundedNumber f Downward N D x → (value f x *ℤ pos D) ≤ℤ N
+given-down {N} a g = rw (g .value) (downward-le (positional a) (g .divisor) N)
 
-pub given-up : {f : Format} {N : ℤ} {D : ℕ} {x : Number} → Given f Upward N D x → N ≤ℤ (value f x *ℤ pos D)
-given-up {N} g = rw (g .value) (le-upward (positional (g .admits)) (g .divisor) N)
+pub given-up : {f : Format} {N : ℤ} {D : ℕ} {x : Number} → Admitted f → RoundedNumber f Upward N D x → N ≤ℤ (value f x *ℤ pos D)
+given-up {N} a g = rw (g .value) (le-upward (positional a) (g .divisor) N)
 
-pub given-mono : {f : Format} {d : Direction} {N N′ : ℤ} {D D′ : ℕ} {x y : Number} → Given f d N D x → Given f d N′ D′ y
+pub given-mono : {f : Format} {d : Direction} {N N′ : ℤ} {D D′ : ℕ} {x y : Number} → Admitted f → RoundedNumber f d N D x → RoundedNumber f d N′ D′ y
     → (N *ℤ pos D′) ≤ℤ (N′ *ℤ pos D) → value f x ≤ℤ value f y
-given-mono {d} {N} {N′} g h l = rw (g .value, h .value) (roundZ-mono (positional (g .admits)) d N N′ (g .divisor) (h .divisor) l)
+given-mono {d} {N} {N′} a g h l = rw (g .value, h .value) (roundZ-mono (positional a) d N N′ (g .divisor) (h .divisor) l)
 
-module _ {f : Format} {a b : Number} {N : ℤ} {D : ℕ} {r : Answer} {x : Number} where
-  pub rounds-down : Rounds f 4 a b N D r → r ≡ Value x → (value f x *ℤ pos D) ≤ℤ N
+module _ {f : Format} {a b : Number} {N : ℤ} {D : ℕ} {r : Given Number} {x : Number} where
+  pub rounds-down : CallRounds f 4 a b N D r → r ≡ gives x → (value f x *ℤ pos D) ≤ℤ N
   unfolding direction
-  rounds-down h e = given-down (h .given e)
+  rounds-down h e = given-down (h .passed e .admits) (h .given e)
 
-  pub rounds-up : Rounds f 3 a b N D r → r ≡ Value x → N ≤ℤ (value f x *ℤ pos D)
+  pub rounds-up : CallRounds f 3 a b N D r → r ≡ gives x → N ≤ℤ (value f x *ℤ pos D)
   unfolding direction
-  rounds-up h e = given-up (h .given e)
+  rounds-up h e = given-up (h .passed e .admits) (h .given e)
 
 -- ---- the sum
 module _ (f : Format) (a b : Number) {x : Number} where
-  pub summed-down : summed f 4 a b ≡ Value x → value f x ≤ℤ (value f a +ℤ value f b)
+  pub summed-down : summed f 4 a b ≡ gives x → value f x ≤ℤ (value f a +ℤ value f b)
   summed-down e = parts-le (value f x) (value f a +ℤ value f b) (omega (arith, scale-le-parts (value f x) 1 (rounds-down (summed-rounds f 4 a b) e)))
 
-  pub summed-up : summed f 3 a b ≡ Value x → (value f a +ℤ value f b) ≤ℤ value f x
+  pub summed-up : summed f 3 a b ≡ gives x → (value f a +ℤ value f b) ≤ℤ value f x
   summed-up e = parts-le (value f a +ℤ value f b) (value f x) (omega (arith, scale-ge-parts (value f x) 1 (rounds-up (summed-rounds f 3 a b) e)))
 
-pub summed-mono : (f : Format) (d : ℕ) (a b c : Number) {x y : Number} → summed f d a c ≡ Value x → summed f d b c ≡ Value y
+pub summed-mono : (f : Format) (d : ℕ) (a b c : Number) {x y : Number} → summed f d a c ≡ gives x → summed f d b c ≡ gives y
     → value f a ≤ℤ value f b → value f x ≤ℤ value f y
 summed-mono f d a b c e h l =
     let s : ℤ = value f a +ℤ value f c in
     let t : ℤ = value f b +ℤ value f c in
-    given-mono (summed-rounds f d a c .given e) (summed-rounds f d b c .given h)
+    given-mono (summed-rounds f d a c .passed e .admits) (summed-rounds f d a c .given e) (summed-rounds f d b c .given h)
     (parts-le (s *ℤ pos 1) (t *ℤ pos 1)
     (omega
     (arith, le-parts l, sum-parts (value f a) (value f c), sum-parts (value f b) (value f c), scale-above s 1, scale-below s 1, scale-above t 1, scale-below t 1)))

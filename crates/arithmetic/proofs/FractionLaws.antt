@@ -1,16 +1,9 @@
 -- What the answer of the fraction says: n over m is ± N / D units, rounded; which refusal comes where; equal fractions are answered
 -- alike, and as the quotient of two numbers; a whole number over 1 comes out unchanged where it is a number of the format.
-use Prim.Native.Nat.{ℕ, zero, suc, _+_, _^_, _*_, _-_, _≤_, _<_}
-use mathlib.Core.Path.{_≡_, refl, sym, ap, _∙_}
-use mathlib.Core.Bool.{Bool, true, false, xor}
-use mathlib.Core.List.{[], _∷_}
-use native.Mathlib.Nat.{mul-pos, zero-mul, mul-le-mul, mul-lt-mul-of-pos-right, eq-of-mul-eq-mul-right, pow-zero}
-use native.Mathlib.Omega.{arith}
-use lib.IntN.{ℤ, pos, negsuc, natAbs, _*ℤ_}
-use borrow.Author.Tests.{le-leb, lt-leb}
+use Rattle.theory.proofs.Prelude.{ℕ, _≤_, _<_, _+_, _^_, _*_, _-_, suc, zero, true, false, Bool, xor, [], _∷_, _∙_, ap, _≡_, sym, refl, pow-zero, mul-pos, mul-lt-mul-of-pos-right, mul-le-mul, zero-mul, eq-of-mul-eq-mul-right, arith, ℤ, pos, natAbs, negsuc, _*ℤ_, le-leb, lt-leb}
 use Rattle.theory.specs.Lists.{all}
-use Rattle.theory.specs.Tests.{_and_}
-use Rattle.theory.specs.Signed.{signed, is-negative}
+use Rattle.theory.specs.Tests.{_and_, unless}
+use Rattle.theory.specs.Signed.{signed, isNegative}
 use Rattle.theory.specs.declared.Direction.{Direction}
 use Rattle.theory.specs.Wide.{Wide}
 use Rattle.theory.proofs.Powers.{pow-add, pow-pos, pow-mono, pow-half}
@@ -18,27 +11,24 @@ use Rattle.theory.proofs.Wide.{wide-pow}
 use Rattle.theory.proofs.Round.{round-exact}
 use Rattle.theory.proofs.Monotone.{Same, round-same}
 use Rattle.theory.proofs.Integers.{below, parts-eq, scale-above, scale-below, size-scale, size-signed, own-sign, scale-signed}
-use Rattle.theory.proofs.Tests.{and-made, unless-passed, unless-failed}
+use Rattle.theory.proofs.Tests.{never, and-left, and-made, unless-passed, unless-failed}
 use Rattle.format.specs.declared.Format.{Format}
-use Rattle.format.specs.declared.Refusal.{Refusal}
-use Rattle.format.specs.declared.Refusal.the-variants.{FormatNotAdmitted, NoSuchDirection, DivisorZero, TooLarge}
-use Rattle.format.specs.declared.Verdict.{Verdict}
-use Rattle.format.specs.declared.Verdict.the-variants as verdict
 use Rattle.format.specs.Formats.{admitted, highestPlace}
+use Rattle.format.specs.Given.{Given, gives, refused}
 use Rattle.format.specs.Directions.{isDirection, direction}
 use Rattle.format.proofs.Formats.{Admitted, admits, admitted-made, positional}
 use Rattle.number.specs.declared.Number.{Number}
-use Rattle.number.specs.declared.Answer.{Answer}
-use Rattle.number.specs.declared.Answer.the-variants.{Value, Refused}
 use Rattle.number.specs.Exponents.{aboveZero, belowZero}
 use Rattle.number.specs.Numbers.{member, placeOf, magnitude, value, greatest, number, delivered}
-use Rattle.number.specs.Entry.{entry, after}
-use Rattle.number.proofs.Entries.{entry-made, after-passed}
+use Rattle.number.specs.Checks as checks
+use Rattle.number.specs.Checks.{checked, Checks}
+use Rattle.number.proofs.CheckLaws.{checked-passed, checks-end}
 use Rattle.number.proofs.Membership.{Member, members, member-made}
 use Rattle.number.proofs.Values.{number-magnitude, number-value, number-member}
+use Rattle.arithmetic.specs.Outcomes.{Outcome}
 use Rattle.arithmetic.specs.Operations.{rounded, roundedQuotient, roundedFraction, divided, fractioned}
 use Rattle.arithmetic.proofs.Prepared.{parts-above, parts-below, no-magnitude, no-significand, divisor-positive, divisor-some, denominator-some, denominator-none}
-use Rattle.arithmetic.proofs.Outcome.{Outcome, rounded-outcome}
+use Rattle.arithmetic.proofs.Outcome.{rounded-outcome}
 use Rattle.arithmetic.proofs.Fractions.{at-place}
 use Rattle.arithmetic.proofs.Algebra.{xor-plus, reach}
 
@@ -51,9 +41,9 @@ under f m = m * f .base ^ aboveZero (f .emin)
 
 -- ± N / D units make n / m: ± N × m × β ^ Emin = n × D, with the power on the side where its exponent is not negative
 pub fraction-times-denominator : (f : Format) (n : ℤ) (m : ℕ)
-    → signed (is-negative n) (over f n) *ℤ pos m *ℤ pos (f .base ^ aboveZero (f .emin)) ≡ n *ℤ pos (f .base ^ belowZero (f .emin)) *ℤ pos (under f m)
+    → signed (isNegative n) (over f n) *ℤ pos m *ℤ pos (f .base ^ aboveZero (f .emin)) ≡ n *ℤ pos (f .base ^ belowZero (f .emin)) *ℤ pos (under f m)
 fraction-times-denominator f n m =
-    let s : Bool = is-negative n in
+    let s : Bool = isNegative n in
     let u : ℕ = f .base ^ aboveZero (f .emin) in
     let w : ℕ = f .base ^ belowZero (f .emin) in
     let left : signed s (over f n) *ℤ pos m *ℤ pos u ≡ signed s (over f n * m * u) = rw (scale-signed s (over f n) m) (scale-signed s (over f n * m) u) in
@@ -65,49 +55,39 @@ under-some : {f : Format} → Admitted f → {m : ℕ} → 1 ≤ m → 1 ≤ und
 under-some {f} ok h = mul-pos h (pow-pos (ok .base-low) (aboveZero (f .emin)))
 
 -- ---- which answer comes where: 1, 2, 4 (for 0 over 0 too), then the rounded fraction, or 5 where it is too large
-pub data Fractioned (f : Format) (d : ℕ) (n : ℤ) (m : ℕ) : Answer → Type 0 where
-  not-admitted : admitted f ≡ false → Fractioned f d n m (Refused FormatNotAdmitted)
-  no-direction : Admitted f → isDirection d ≡ false → Fractioned f d n m (Refused NoSuchDirection)
-  zero-denominator : Admitted f → isDirection d ≡ true → m ≡ 0 → Fractioned f d n m (Refused DivisorZero)
-  rounds : {r : Answer} → Admitted f → isDirection d ≡ true → 1 ≤ m → Outcome f (direction d) (signed (is-negative n) (over f n)) (under f m) r → Fractioned f d n m r
+pub data Fractioned (f : Format) (d : ℕ) (n : ℤ) (m : ℕ) : Given Number → Type 0 where
+  not-admitted : admitted f ≡ false → Fractioned f d n m (refused 1)
+  no-direction : Admitted f → isDirection d ≡ false → Fractioned f d n m (refused 2)
+  zero-denominator : Admitted f → isDirection d ≡ true → m ≡ 0 → Fractioned f d n m (refused 4)
+  rounds : {r : Given Number} → Admitted f → isDirection d ≡ true → 1 ≤ m → Outcome f (direction d) (signed (isNegative n) (over f n)) (under f m) r → Fractioned f d n m r
 
-module _ (f : Format) (d : ℕ) where
-  first-fails : admitted f ≡ false → entry f (d ∷ []) [] ≡ verdict.Refused FormatNotAdmitted
-  unfolding entry
-  first-fails h = unless-failed _ _ h
+only : (t : Bool) → t and true ≡ false → t ≡ false
+unfolding _and_
+only true e = e
+only false e = e
 
-  second-fails : admitted f ≡ true → isDirection d ≡ false → entry f (d ∷ []) [] ≡ verdict.Refused NoSuchDirection
-  unfolding entry all _and_
-  second-fails h k = unless-passed _ _ h ∙ unless-failed _ _ (ap (λ (t : Bool). t and true) k)
+module _ (f : Format) (d : ℕ) (n : ℤ) where
+  passes : Admitted f → isDirection d ≡ true → (m : ℕ) → fractioned f d n m ≡ roundedFraction f (direction d) n m
+  unfolding fractioned all
+  passes ok k m = checked-passed f (d ∷ []) [] _ (admitted-made ok) (and-made k refl) refl
 
-  passes : admitted f ≡ true → isDirection d ≡ true → entry f (d ∷ []) [] ≡ verdict.Passed
-  unfolding all
-  passes h k = entry-made f (d ∷ []) [] h (and-made k refl) refl
-
-  module _ (n : ℤ) where
-    goes-on : Admitted f → isDirection d ≡ true → (m : ℕ) → fractioned f d n m ≡ roundedFraction f (direction d) n m
-    unfolding fractioned
-    goes-on ok k m = after-passed _ _ (passes (admitted-made ok) k)
-
-    refused : {why : Refusal} → entry f (d ∷ []) [] ≡ verdict.Refused why → (m : ℕ) → Refused why ≡ fractioned f d n m
-    unfolding fractioned after
-    refused e m = rw (e, after)
-
-    pub fractioned-is : (m : ℕ) → Fractioned f d n m (fractioned f d n m)
-    fractioned-is m = by (admitted f) (isDirection d) m refl refl
-      where
-        by : (s t : Bool) (m : ℕ) → admitted f ≡ s → isDirection d ≡ t → Fractioned f d n m (fractioned f d n m)
-        by false t m h k = rw (← refused (first-fails h) m) (not-admitted h)
-        by true false m h k = rw (← refused (second-fails h k) m) (no-direction (admits f h) k)
-        by true true zero h k = rw (goes-on (admits f h) k 0, denominator-none f (direction d) n refl) (zero-denominator (admits f h) k refl)
-        by true true (suc m) h k =
-            let ok = admits f h in
-            let some : 1 ≤ suc m = omega arith in
-            rw (goes-on ok k (suc m), denominator-some f (direction d) n some)
-            (rounds ok k some (rounded-outcome ok (direction d) (is-negative n) (over f n) (under-some ok some)))
+  pub fractioned-is : (m : ℕ) → Fractioned f d n m (fractioned f d n m)
+  unfolding fractioned all
+  fractioned-is m = by m (checks-end f (d ∷ []) [] (roundedFraction f (direction d) n m))
+    where
+      by : (m : ℕ) {g : Given Number} → Checks f (d ∷ []) [] (roundedFraction f (direction d) n m) g → Fractioned f d n m g
+      by m (checks.not-admitted h) = not-admitted h
+      by m (checks.no-direction h k) = no-direction (admits f h) (only _ k)
+      by m (checks.not-member h k l) = absurd (never l)
+      by zero (checks.all-passed h k l) = rw (denominator-none f (direction d) n refl) (zero-denominator (admits f h) (and-left _ _ k) refl)
+      by (suc m) (checks.all-passed h k l) =
+          let ok = admits f h in
+          let some : 1 ≤ suc m = omega arith in
+          rw (denominator-some f (direction d) n some)
+          (rounds ok (and-left _ _ k) some (rounded-outcome ok (direction d) (isNegative n) (over f n) (under-some ok some)))
 
 -- ---- equal fractions are answered alike
-same-sign : (n k : ℤ) (m j : ℕ) → 1 ≤ m → 1 ≤ j → n *ℤ pos j ≡ k *ℤ pos m → is-negative n ≡ is-negative k
+same-sign : (n k : ℤ) (m j : ℕ) → 1 ≤ m → 1 ≤ j → n *ℤ pos j ≡ k *ℤ pos m → isNegative n ≡ isNegative k
 same-sign (pos a) (pos b) m j hm hj e = refl
 same-sign (pos a) (negsuc b) m j hm hj e = absurd (omega (arith, ap below e, scale-below (pos a) j, scale-below (negsuc b) m, mul-pos {m = suc b} {n = m} (omega arith) hm))
 same-sign (negsuc a) (pos b) m j hm hj e = absurd (omega (arith, ap below e, scale-below (negsuc a) j, scale-below (pos b) m, mul-pos {m = suc a} {n = j} (omega arith) hj))
@@ -118,14 +98,15 @@ unfolding rounded
 rounded-same {f} ok d {t = t} e h = rw e (ap (delivered f t) (round-same (positional ok) d t h))
 
 module _ (f : Format) (d : ℕ) where
-  -- what holds after passed checks holds of the answers
-  checked-same : {x y : Answer} → (Admitted f → x ≡ y) → after (entry f (d ∷ []) []) Refused x ≡ after (entry f (d ∷ []) []) Refused y
-  unfolding after
+  -- what holds after passed checks holds of what is given
+  checked-same : {x y : Given Number} → (Admitted f → x ≡ y) → checked f (d ∷ []) [] x ≡ checked f (d ∷ []) [] y
+  unfolding checked
   checked-same {x} {y} h = by (admitted f) refl
     where
-      by : (t : Bool) → admitted f ≡ t → after (entry f (d ∷ []) []) Refused x ≡ after (entry f (d ∷ []) []) Refused y
+      by : (t : Bool) → admitted f ≡ t → unless t (refused 1) (unless (all isDirection (d ∷ [])) (refused 2) (unless (all (member f) []) (refused 3) x))
+          ≡ unless t (refused 1) (unless (all isDirection (d ∷ [])) (refused 2) (unless (all (member f) []) (refused 3) y))
       by true a = rw (h (admits f a))
-      by false a = rw (first-fails f d a, after)
+      by false a = unless-failed _ _ refl ∙ sym (unless-failed _ _ refl)
 
   pub fractioned-same : (n k : ℤ) {m j : ℕ} → 1 ≤ m → 1 ≤ j → n *ℤ pos j ≡ k *ℤ pos m → fractioned f d n m ≡ fractioned f d k j
   unfolding fractioned
@@ -179,12 +160,12 @@ module _ {f : Format} (ok : Admitted f) where
       ∙ sym (size-scale (value f x) (f .base ^ aboveZero (f .emin))) ∙ ap natAbs (w .value) ∙ size-scale z (f .base ^ belowZero (f .emin))
 
   -- a number has the sign of its value
-  signed-sign : (s : Bool) (n : ℕ) → (n ≡ 0 → s ≡ false) → is-negative (signed s n) ≡ s
+  signed-sign : (s : Bool) (n : ℕ) → (n ≡ 0 → s ≡ false) → isNegative (signed s n) ≡ s
   signed-sign true zero h = sym (h refl)
   signed-sign true (suc n) h = refl
   signed-sign false n h = refl
 
-  whole-sign : {x : Number} {z : ℤ} → Whole f x z → is-negative z ≡ x .negative
+  whole-sign : {x : Number} {z : ℤ} → Whole f x z → isNegative z ≡ x .negative
   unfolding value
   whole-sign {x} {z} w =
       let zero-plus : magnitude f x ≡ 0 → x .negative ≡ false = λ e. members x ok (w .member) .zero-sign (no-significand ok x e) in
@@ -200,9 +181,9 @@ module _ {f : Format} (ok : Admitted f) where
       by (suc n) e = omega arith
 
 module _ (f : Format) (d : ℕ) (a b : Number) where
-  checked-whole : member f a ≡ true → member f b ≡ true → entry f (d ∷ []) (a ∷ b ∷ []) ≡ entry f (d ∷ []) []
-  unfolding entry all _and_
-  checked-whole h k = rw (h, k, _and_)
+  checked-whole : member f a ≡ true → member f b ≡ true → (g : Given Number) → checked f (d ∷ []) (a ∷ b ∷ []) g ≡ checked f (d ∷ []) [] g
+  unfolding checked all _and_
+  checked-whole h k g = rw (h, k, _and_)
 
   pub fractioned-quotient : {n : ℤ} {m : ℕ} → Whole f a n → Whole f b (pos m) → 1 ≤ m → fractioned f d n m ≡ divided f d a b
   unfolding fractioned divided
@@ -212,7 +193,7 @@ module _ (f : Format) (d : ℕ) (a b : Number) where
       let size-a = whole-size ok u in
       let size-b = whole-size ok v in
       let some = whole-some ok v h in
-      let signs : is-negative n ≡ xor (a .negative) (b .negative) = rw (← whole-sign ok v) (whole-sign ok u ∙ sym (xor-plus (a .negative) false refl)) in
+      let signs : isNegative n ≡ xor (a .negative) (b .negative) = rw (← whole-sign ok v) (whole-sign ok u ∙ sym (xor-plus (a .negative) false refl)) in
       let cross : Same (over f n) (under f m) (magnitude f a * f .base ^ belowZero (f .emin)) (magnitude f b * f .base ^ aboveZero (f .emin)) =
       record {
         divisor = under-some ok h;
@@ -224,16 +205,16 @@ module _ (f : Format) (d : ℕ) (a b : Number) where
         );
       } in
       denominator-some f (direction d) n h ∙ rounded-same ok (direction d) signs cross ∙ sym (divisor-some ok (direction d) a b some))
-      ∙ ap (λ (e : Verdict). after e Refused (roundedQuotient f (direction d) a b)) (sym (checked-whole (u .member) (v .member)))
+      ∙ sym (checked-whole (u .member) (v .member) _)
 
 -- ---- a whole number over 1, in a format with Emin ≤ 0
 -- r is the number n, by its value (n / β ^ Emin units) and by its record (the sign of n, and m × β ^ e = |n|)
-pub record Unchanged (f : Format) (n : ℤ) (r : Answer) : Type 0 where
+pub record Unchanged (f : Format) (n : ℤ) (r : Given Number) : Type 0 where
   pub number : Number
-  pub is : r ≡ Value number
+  pub is : r ≡ gives number
   pub member : member f number ≡ true
   pub value : value f number ≡ n *ℤ pos (f .base ^ belowZero (f .emin))
-  pub sign : number .negative ≡ is-negative n
+  pub sign : number .negative ≡ isNegative n
   pub size : number .significand * f .base ^ aboveZero (number .exponent) ≡ natAbs n * f .base ^ belowZero (number .exponent)
 
 module _ {f : Format} (ok : Admitted f) (low : aboveZero (f .emin) ≡ 0) (d : ℕ) (k : isDirection d ≡ true) where
@@ -258,25 +239,25 @@ module _ {f : Format} (ok : Admitted f) (low : aboveZero (f .emin) ≡ 0) (d : �
       (omega (arith, ap (λ (v : ℕ). x .significand * v) powers, ap (λ (v : ℕ). v * B ^ belowZero (x .exponent)) e))
 
   -- a magnitude of the wide format is not rounded
-  whole-delivered : (n : ℤ) → Wide (f .base) (f .digits) (over f n) → fractioned f d n 1 ≡ delivered f (is-negative n) (over f n)
+  whole-delivered : (n : ℤ) → Wide (f .base) (f .digits) (over f n) → fractioned f d n 1 ≡ delivered f (isNegative n) (over f n)
   unfolding rounded
   whole-delivered n w =
-      goes-on f d n ok k 1 ∙ denominator-some f (direction d) n (omega arith)
-      ∙ ap (delivered f (is-negative n))
-      (round-exact (positional ok) (over f n) (under-some ok (omega arith)) (direction d) (is-negative n) (over f n) w (rw under-one (omega arith)))
+      passes f d n ok k 1 ∙ denominator-some f (direction d) n (omega arith)
+      ∙ ap (delivered f (isNegative n))
+      (round-exact (positional ok) (over f n) (under-some ok (omega arith)) (direction d) (isNegative n) (over f n) w (rw under-one (omega arith)))
 
-  too-large : (n : ℤ) → Wide (f .base) (f .digits) (over f n) → greatest f < over f n → fractioned f d n 1 ≡ Refused TooLarge
+  too-large : (n : ℤ) → Wide (f .base) (f .digits) (over f n) → greatest f < over f n → fractioned f d n 1 ≡ refused 5
   unfolding delivered
   too-large n w l = whole-delivered n w ∙ unless-failed _ _ (lt-leb _ _ l)
 
   pub unchanged : (n : ℤ) → Wide (f .base) (f .digits) (over f n) → over f n ≤ greatest f → Unchanged f n (fractioned f d n 1)
   unfolding delivered
   unchanged n w l =
-      let x : Number = number f (is-negative n) (over f n) in
+      let x : Number = number f (isNegative n) (over f n) in
       let unit : ℕ = f .base ^ belowZero (f .emin) in
-      let i : Member f x = number-member ok w (is-negative n) l in
+      let i : Member f x = number-member ok w (isNegative n) l in
       let units : value f x ≡ n *ℤ pos unit =
-      number-value ok w (is-negative n) ∙ sym (scale-signed (is-negative n) (natAbs n) unit) ∙ ap (λ (z : ℤ). z *ℤ pos unit) (own-sign n) in
+      number-value ok w (isNegative n) ∙ sym (scale-signed (isNegative n) (natAbs n) unit) ∙ ap (λ (z : ℤ). z *ℤ pos unit) (own-sign n) in
       let whole : Whole f x n = record { member = member-made x ok i; value = rw (low, pow-zero) (times-one (value f x) ∙ units) } in
       record {
         number = x;
@@ -284,7 +265,7 @@ module _ {f : Format} (ok : Admitted f) (low : aboveZero (f .emin) ≡ 0) (d : �
         member = member-made x ok i;
         value = units;
         sign = sym (whole-sign ok whole);
-        size = plain-size n i (number-magnitude ok w (is-negative n));
+        size = plain-size n i (number-magnitude ok w (isNegative n));
       }
 
 -- ---- binary with 31 digits, Emin ≤ 0 ≤ Emax
@@ -330,7 +311,7 @@ module _ {f : Format} (b : Binary31 f) where
     pub numerator-unchanged : (n : ℤ) → natAbs n < 2 ^ 31 → Unchanged f n (fractioned f d n 1)
     numerator-unchanged n l = unchanged (b .admits) (b .low) d k n (small-wide n l) (small-within n l)
 
-    pub least-too-large : aboveZero (f .emax) ≡ 0 → fractioned f d least 1 ≡ Refused TooLarge
+    pub least-too-large : aboveZero (f .emax) ≡ 0 → fractioned f d least 1 ≡ refused 5
     least-too-large e =
         let same : highestPlace f ≡ belowZero (f .emin) = omega (arith, highest) in
         too-large (b .admits) (b .low) d k least least-wide

@@ -1,9 +1,6 @@
 -- The fractions of product and quotient in significands and exponents, without the unit: of m × β ^ e and m' × β ^ e' the
 -- product is m × m' × β ^ (e + e'), and the quotient m / m' × β ^ (e - e').
-use Prim.Native.Nat.{ℕ, _+_, _^_, _*_}
-use mathlib.Core.Path.{_≡_, sym, ap, _∙_}
-use native.Mathlib.Omega.{arith}
-use lib.IntN.{ℤ, pos, _+ℤ_, _-ℤ_}
+use Rattle.theory.proofs.Prelude.{ℕ, _+_, _^_, _*_, _∙_, ap, _≡_, sym, arith, ℤ, pos, _+ℤ_, _-ℤ_}
 use Rattle.theory.proofs.Powers.{pow-add}
 use Rattle.theory.proofs.Integers.{above, below, sum-parts, diff-parts, size-parts}
 use Rattle.format.specs.declared.Format.{Format}

@@ -4,7 +4,6 @@ pub mod Prepared
 pub mod Outcome
 pub mod Fractions
 pub mod Results
-pub mod Entered
 -- what a call's answer says of the exact result
 pub mod Calls
 pub mod Algebra

@@ -1,59 +1,41 @@
 -- What an answer says of the exact result N / D units: a number that is given is in the format and has the rounded value, and
 -- refusal 5 is given exactly where the rounded magnitude is above the greatest number. An exact result that is a number of the
 -- format is given as it is, in every direction.
-use Prim.Native.Nat.{ℕ, _*_, _≤_, _<_}
-use mathlib.Core.Path.{_≡_, refl, sym, ap, _∙_}
-use mathlib.Core.Bool.{Bool, true, false}
-use native.Mathlib.Omega.{arith}
-use lib.Dec.{leb}
-use lib.IntN.{ℤ, natAbs}
-use borrow.Author.Tests.{leb-true, leb-false, le-leb}
+use Rattle.theory.proofs.Prelude.{ℕ, _≤_, _<_, _*_, true, false, Bool, ⊎-elim, _∙_, ap, _≡_, sym, refl, pow-zero, lt-of-mul-lt-mul-right, arith, leb, ℤ, natAbs, le-leb, leb-true, leb-false}
 use Rattle.theory.specs.Tests.{unless}
 use Rattle.theory.specs.Round.{round}
 use Rattle.theory.specs.declared.Direction.{Direction}
-use Rattle.theory.specs.Signed.{signed, is-negative, roundZ}
+use Rattle.theory.specs.declared.Direction.the-variants.{TowardZero}
+use Rattle.theory.specs.Neighbours.{lowerQ, upperQ}
+use Rattle.theory.specs.Signed.{signed, isNegative, roundZ}
 use Rattle.theory.proofs.Tests.{unless-passed}
-use Rattle.theory.proofs.Round.{round-wide, round-exact}
+use Rattle.theory.proofs.Wide.{wide-pow}
+use Rattle.theory.proofs.Neighbours.{lowerQ-le, upperQ-least}
+use Rattle.theory.proofs.Round.{round-wide, round-exact, round-cases}
 use Rattle.theory.proofs.Integers.{size-signed, own-sign}
-use Rattle.theory.proofs.Signed.{roundZ-signed}
+use Rattle.theory.proofs.Signed.{roundZ-size, roundZ-signed, toward-zero-size}
 use Rattle.format.specs.declared.Format.{Format}
-use Rattle.format.specs.declared.Refusal.{Refusal}
-use Rattle.format.specs.declared.Refusal.the-variants.{TooLarge}
+use Rattle.format.specs.Given.{Given, gives, refused}
 use Rattle.format.proofs.Formats.{Admitted, positional}
+use Rattle.format.proofs.GivenLaws.{gives-same}
 use Rattle.number.specs.declared.Number.{Number}
-use Rattle.number.specs.declared.Answer.{Answer}
-use Rattle.number.specs.declared.Answer.the-variants.{Value, Refused}
 use Rattle.number.specs.Numbers.{member, magnitude, value, greatest, number, delivered}
 use Rattle.number.proofs.Membership.{Member, member-made}
 use Rattle.number.proofs.Values.{member-wide, member-greatest, number-same, number-of, own-sign as own-record, number-member, number-value}
 use Rattle.arithmetic.specs.Operations.{rounded, roundedZ}
-
--- x is N / D units, rounded in the direction d
-pub record Given (f : Format) (d : Direction) (N : ℤ) (D : ℕ) (x : Number) : Type 0 where
-  pub admits : Admitted f
-  pub divisor : 1 ≤ D
-  pub member : member f x ≡ true
-  pub value : value f x ≡ roundZ (f .base) (f .digits) d N D
-  pub within : natAbs (roundZ (f .base) (f .digits) d N D) ≤ greatest f
-
-pub data Outcome (f : Format) (d : Direction) (N : ℤ) (D : ℕ) : Answer → Type 0 where
-  given : {x : Number} → Given f d N D x → Outcome f d N D (Value x)
-  too-large : greatest f < natAbs (roundZ (f .base) (f .digits) d N D) → Outcome f d N D (Refused TooLarge)
-
-inside : {x y : Number} → Value x ≡ Value y → x ≡ y
-inside e = cc
+use Rattle.arithmetic.specs.Outcomes.{RoundedNumber, Outcome, given, too-large}
 
 module _ {f : Format} {d : Direction} {N : ℤ} {D : ℕ} where
-  pub outcome-given : {r : Answer} {x : Number} → Outcome f d N D r → r ≡ Value x → Given f d N D x
-  outcome-given (given g) e = rw (inside e) at g
+  pub outcome-given : {r : Given Number} {x : Number} → Outcome f d N D r → r ≡ gives x → RoundedNumber f d N D x
+  outcome-given (given g) e = rw (gives-same e) at g
   outcome-given (too-large h) e = absurd (let z : _≡_ {A = ℕ} 0 1 = cc in omega arith)
 
-  pub outcome-refused : {r : Answer} → Outcome f d N D r → r ≡ Refused TooLarge → greatest f < natAbs (roundZ (f .base) (f .digits) d N D)
+  pub outcome-refused : {r : Given Number} → Outcome f d N D r → r ≡ refused 5 → greatest f < natAbs (roundZ (f .base) (f .digits) d N D)
   outcome-refused (given g) e = absurd (let z : _≡_ {A = ℕ} 0 1 = cc in omega arith)
   outcome-refused (too-large h) e = h
 
   -- no other refusal is given
-  pub outcome-only : {r : Answer} {why : Refusal} → Outcome f d N D r → r ≡ Refused why → why ≡ TooLarge
+  pub outcome-only : {r : Given Number} {n : ℕ} → Outcome f d N D r → r ≡ refused n → n ≡ 5
   outcome-only (given g) e = absurd (let z : _≡_ {A = ℕ} 0 1 = cc in omega arith)
   outcome-only (too-large h) e = cc
 
@@ -71,13 +53,12 @@ module _ {f : Format} (a : Admitted f) (d : Direction) where
       size : natAbs (roundZ (f .base) (f .digits) d (signed negative n) D) ≡ v
       size = ap natAbs signs ∙ size-signed negative v
 
-      by : (t : Bool) → leb v (greatest f) ≡ t → Outcome f d (signed negative n) D (unless t (Refused TooLarge) (Value (number f negative v)))
+      by : (t : Bool) → leb v (greatest f) ≡ t → Outcome f d (signed negative n) D (unless t (refused 5) (gives (number f negative v)))
       by true h =
           let l : v ≤ greatest f = leb-true _ _ h in
           let w = round-wide (positional a) n hD d negative in
           given
           (record {
-            admits = a;
             divisor = hD;
             member = member-made _ a (number-member a w negative l);
             value = number-value a w negative ∙ sym signs;
@@ -87,20 +68,40 @@ module _ {f : Format} (a : Admitted f) (d : Direction) where
 
   pub roundedZ-outcome : (z : ℤ) → Outcome f d z 1 (roundedZ f d z)
   unfolding roundedZ
-  roundedZ-outcome z = rw (own-sign z) at (rounded-outcome (is-negative z) (natAbs z) {D = 1} (omega arith))
+  roundedZ-outcome z = rw (own-sign z) at (rounded-outcome (isNegative z) (natAbs z) {D = 1} (omega arith))
 
   -- an exact result that is the number x, with x's sign
   pub rounded-exact : {x : Number} → Member f x → (negative : Bool) (n : ℕ) {D : ℕ} → 1 ≤ D → n ≡ magnitude f x * D → signed negative (magnitude f x) ≡ value f x
-      → rounded f d negative n D ≡ Value x
+      → rounded f d negative n D ≡ gives x
   unfolding rounded delivered value
   rounded-exact {x} i negative n hD e s =
       let size = round-exact (positional a) n hD d negative (magnitude f x) (member-wide a i) e in
       let same : number f negative (magnitude f x) ≡ x =
       number-same f negative (x .negative) (magnitude f x) (magnitude f x) s ∙ number-of a i (x .negative) ∙ own-record a i in
-      rw size (unless-passed _ _ (le-leb _ _ (member-greatest a i)) ∙ ap Value same)
+      rw size (unless-passed _ _ (le-leb _ _ (member-greatest a i)) ∙ ap gives same)
 
-  pub roundedZ-exact : {x : Number} → Member f x → (z : ℤ) → z ≡ value f x → roundedZ f d z ≡ Value x
+  pub roundedZ-exact : {x : Number} → Member f x → (z : ℤ) → z ≡ value f x → roundedZ f d z ≡ gives x
   unfolding roundedZ value
   roundedZ-exact {x} i z e =
       let size : natAbs z ≡ magnitude f x = ap natAbs e ∙ size-signed (x .negative) (magnitude f x) in
-      rounded-exact i (is-negative z) (natAbs z) (omega arith) (omega arith) (ap (signed (is-negative z)) (sym size) ∙ own-sign z ∙ e)
+      rounded-exact i (isNegative z) (natAbs z) (omega arith) (omega arith) (ap (signed (isNegative z)) (sym size) ∙ own-sign z ∙ e)
+
+-- ---- a result below the smallest number, which is one unit: zero or the smallest number, as the direction says; toward zero it is zero
+lower-zero : {f : Format} → Admitted f → (n : ℕ) {D : ℕ} → 1 ≤ D → n < D → lowerQ (f .base) (f .digits) n D < 1
+lower-zero a n {D} hD h = lt-of-mul-lt-mul-right D (omega (arith, lowerQ-le (positional a) n hD))
+
+module _ {f : Format} (a : Admitted f) {N : ℤ} {D : ℕ} {x : Number} where
+  size : {d : Direction} → RoundedNumber f d N D x → magnitude f x ≡ natAbs (roundZ (f .base) (f .digits) d N D)
+  unfolding value
+  size r = sym (size-signed (x .negative) (magnitude f x)) ∙ ap natAbs (r .value)
+
+  pub below-smallest : {d : Direction} → RoundedNumber f d N D x → natAbs N < D → magnitude f x ≤ 1
+  below-smallest {d} r h =
+      let ok = positional a in
+      let hD = r .divisor in
+      let high : upperQ (f .base) (f .digits) (natAbs N) D ≤ 1 = upperQ-least ok (natAbs N) hD (rw (← pow-zero (f .base)) (wide-pow ok 0)) (omega arith) in
+      rw (size r, roundZ-size (f .base) (f .digits) d N D)
+      (⊎-elim (λ e. omega (arith, e, lower-zero a (natAbs N) hD h)) (λ e. omega (arith, e, high)) (round-cases ok (natAbs N) hD d (isNegative N)))
+
+  pub toward-zero-vanishes : RoundedNumber f TowardZero N D x → natAbs N < D → magnitude f x ≡ 0
+  toward-zero-vanishes r h = omega (arith, size r, toward-zero-size (positional a) (r .divisor) N, lower-zero a (natAbs N) (r .divisor) h)

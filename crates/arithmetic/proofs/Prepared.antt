@@ -1,42 +1,30 @@
 -- From a prepared format to the wide format and back: a number of the format is an operand there, and a result that comes back
 -- is the exact value, rounded and delivered.
-use Prim.Native.Nat.{ℕ, zero, suc, _^_, _*_, _≤_, _<_}
-use mathlib.Core.Path.{_≡_, refl, sym, ap, _∙_}
-use mathlib.Core.Bool.{Bool, true, not, xor}
-use native.Mathlib.Nat.{mul-pos}
-use native.Mathlib.Omega.{arith}
-use lib.IntN.{ℤ, pos, negsuc, negℤ, natAbs, _+ℤ_}
-use borrow.Author.Tests.{eq-eqb, ne-eqb}
-use Rattle.theory.specs.Round.{round}
+use Rattle.theory.proofs.Prelude.{ℕ, _≤_, _<_, _+_, _^_, _*_, suc, zero, true, false, Bool, cond, not, xor, _∙_, ap, _≡_, sym, refl, ap₂, mul-pos, arith, ℤ, pos, _+ℤ_, natAbs, _-ℤ_, negsuc, negℤ, +ℤ-comm, ltZ, ne-eqb, eq-eqb}
 use Rattle.theory.specs.declared.Direction.{Direction}
-use Rattle.theory.specs.Signed.{is-negative}
+use Rattle.theory.specs.Signed.{isNegative, roundZ}
 use Rattle.theory.specs.Wide.{Canonical}
 use Rattle.theory.proofs.Powers.{pow-pos}
-use Rattle.theory.proofs.Integers.{above, below}
-use Rattle.theory.proofs.Signed.{roundZ-signed}
+use Rattle.theory.proofs.Integers.{above, below, size-parts, diff-parts}
 use Rattle.format.specs.declared.Format.{Format}
 use Rattle.format.specs.declared.Prepared.{Prepared}
-use Rattle.format.specs.declared.Refusal.the-variants.{DivisorZero}
+use Rattle.format.specs.Given.{Given, gives, refused}
 use Rattle.format.specs.Formats.{Scaled, scaleOf}
-use Rattle.format.proofs.Signed.{apart}
+use Rattle.format.proofs.Signed.{Upto, apart, lt-true, lt-false}
 use Rattle.format.proofs.Formats.{Admitted, positional, scaled}
 use Rattle.number.specs.declared.Number.{Number}
-use Rattle.number.specs.declared.Answer.{Answer}
-use Rattle.number.specs.declared.Answer.the-variants.{Refused}
-use Rattle.number.specs.Entry.{Usable}
+use Rattle.number.specs.Checks.{Usable, Operands}
 use Rattle.number.specs.Exponents.{aboveZero, belowZero}
 use Rattle.number.specs.Numbers.{member, placeOf, magnitude, value, number, delivered}
 use Rattle.number.specs.Signs.{withSign}
-use Rattle.number.proofs.Membership.{members, member-made, known}
-use Rattle.number.proofs.Values.{member-canonical, member-highest, highest-most, number-same, number-of}
+use Rattle.number.proofs.Membership.{Member, members, member-made, known}
+use Rattle.number.proofs.Values.{member-canonical, member-highest, highest-most, delivered-same, number-of}
 use Rattle.number.proofs.Negation.{signed-member, negated-value}
-use Rattle.wide.specs.declared.Wide.{Wide}
-use Rattle.wide.specs.Operand.{Operand, sizeOf}
-use Rattle.wide.specs.Delivery as wide
-use Rattle.wide.specs.Sum.{summed}
-use Rattle.wide.specs.Product.{multiplied}
-use Rattle.wide.specs.Quotient.{divided}
-use Rattle.wide.proofs.Results.{Result, delivered-result, summed-result, multiplied-result, divided-result}
+use Rattle.rounding.specs.declared.Wide.{Wide}
+use Rattle.rounding.specs.Cut.{Rounds}
+use Rattle.wide.specs.Operand.{Bounded, sizeOf, valueOf}
+use Rattle.wide.specs.Sum.{RoundsZ}
+use Rattle.wide.proofs.Results.{sum-value}
 use Rattle.arithmetic.specs.Operands.{wideOf}
 use Rattle.arithmetic.specs.Operations.{rounded, roundedZ, roundedSum, roundedProduct, roundedQuotient, roundedFraction}
 
@@ -81,17 +69,17 @@ module _ {f : Format} (a : Admitted f) where
   unfolding roundedQuotient
   divisor-some d x y h = rw (ne-eqb (magnitude f y) 0 (λ e. omega (arith, some-magnitude y h)))
 
-pub divisor-none : (f : Format) (d : Direction) (x y : Number) → y .significand ≡ 0 → roundedQuotient f d x y ≡ Refused DivisorZero
+pub divisor-none : (f : Format) (d : Direction) (x y : Number) → y .significand ≡ 0 → roundedQuotient f d x y ≡ refused 4
 unfolding roundedQuotient
 divisor-none f d x y h = rw (eq-eqb (magnitude f y) 0 (no-magnitude f y h))
 
 -- ---- a denominator, zero or not
 pub denominator-some : (f : Format) (d : Direction) (n : ℤ) {m : ℕ} → 1 ≤ m
-    → roundedFraction f d n m ≡ rounded f d (is-negative n) (natAbs n * f .base ^ belowZero (f .emin)) (m * f .base ^ aboveZero (f .emin))
+    → roundedFraction f d n m ≡ rounded f d (isNegative n) (natAbs n * f .base ^ belowZero (f .emin)) (m * f .base ^ aboveZero (f .emin))
 unfolding roundedFraction
 denominator-some f d n {m} h = rw (ne-eqb m 0 (λ e. omega arith))
 
-pub denominator-none : (f : Format) (d : Direction) (n : ℤ) {m : ℕ} → m ≡ 0 → roundedFraction f d n m ≡ Refused DivisorZero
+pub denominator-none : (f : Format) (d : Direction) (n : ℤ) {m : ℕ} → m ≡ 0 → roundedFraction f d n m ≡ refused 4
 unfolding roundedFraction
 denominator-none f d n {m} h = rw (eq-eqb m 0 h)
 
@@ -106,10 +94,10 @@ module _ {f : Format} (ok : Admitted f) (b : Number) {y : Number} (m : member f 
   pub turned-value : value f y ≡ negℤ (value f b)
   turned-value = rw turned (negated-value ok (members b ok m))
 
--- the format delivers the wide result w as the answer
-pub record Delivers (f : Format) (w : Wide) (answer : Answer) : Type 0 where
+-- the format delivers the wide result w as what is given
+pub record Delivers (f : Format) (w : Wide) (g : Given Number) : Type 0 where
   pub canonical : Canonical (f .base) (f .digits) (w .significand) (w .place)
-  pub is : delivered f (w .negative) (sizeOf (f .base) w) ≡ answer
+  pub is : delivered f (w .negative) (sizeOf (f .base) w) ≡ g
 
 module _ {q : Prepared} (u : Usable q) where
   pub scale-is : q .scale ≡ scaleOf (q .format)
@@ -118,64 +106,82 @@ module _ {q : Prepared} (u : Usable q) where
   pub scale-scaled : Scaled (q .scale)
   scale-scaled = rw scale-is (scaled (known u .admits))
 
-  pub operand : (a : Number) {x : Wide} → member (q .format) a ≡ true → x ≡ wideOf (q .format) a → Operand (q .scale) x
-  operand a m e =
+  pub bounded : (a : Number) {x : Wide} → member (q .format) a ≡ true → x ≡ wideOf (q .format) a → Bounded (q .scale) x
+  bounded a m e =
       let ok = known u .admits in
       let i = members a ok m in
       rw (e, scale-is) (record { canonical = member-canonical ok i; place-most = omega (arith, member-highest ok i, highest-most ok) })
 
   -- ---- a result of the wide format, delivered
-  result-delivers : {d : Direction} {negative : Bool} {N D : ℕ} {w : Wide} → 1 ≤ D → Result (q .format .base) (q .format .digits) d negative N D w
+  rounds-delivers : {d : Direction} {negative : Bool} {N D : ℕ} {w : Wide} → Rounds (q .format .base) (q .format .digits) d negative N D w
       → Delivers (q .format) w (rounded (q .format) d negative N D)
-  unfolding delivered rounded
-  result-delivers {d} {negative} {N} {D} {w} hD h =
-      let f : Format = q .format in
-      let v : ℕ = round (f .base) (f .digits) d negative N D in
-      let same = number-same f (w .negative) negative (sizeOf (f .base) w) v (h .value ∙ roundZ-signed (positional (known u .admits)) hD d negative N) in
-      record { canonical = h .canonical; is = rw (same, h .size) }
+  unfolding rounded
+  rounds-delivers h = record { canonical = h .canonical; is = ap₂ (delivered (q .format)) (h .sign) (h .size) }
+
+  sum-delivers : {d : Direction} (z : ℤ) {w : Wide} → RoundsZ (q .format .base) (q .format .digits) d z w → Delivers (q .format) w (roundedZ (q .format) d z)
+  unfolding roundedZ rounded roundZ
+  sum-delivers z {w} h =
+      record {
+        canonical = h .rounds .canonical;
+        is = delivered-same (q .format) (w .negative) (isNegative z) (sizeOf (q .format .base) w) _ (sum-value (positional (known u .admits)) z h);
+      }
 
   module _ (d : Direction) (a b : Number) {x y : Wide} (ex : x ≡ wideOf (q .format) a) (ey : y ≡ wideOf (q .format) b) where
-    sum-result : {w : Wide} → w ≡ summed (q .scale .base) (q .scale .digits) d x y
-        → let v : ℤ = value (q .format) a +ℤ value (q .format) b in Result (q .format .base) (q .format .digits) d (is-negative v) (natAbs v) 1 w
+    pub add-delivers : {w : Wide} → RoundsZ (q .scale .base) (q .scale .digits) d (valueOf (q .scale .base) x +ℤ valueOf (q .scale .base) y) w
+        → Delivers (q .format) w (roundedSum (q .format) d a b)
     unfolding value magnitude
-    sum-result e = rw (e, ex, ey, scale-is) (summed-result (positional (known u .admits)) d (wideOf (q .format) a) (wideOf (q .format) b))
+    add-delivers h = sum-delivers _ (rw (ex, ey, scale-is) at h)
 
-    pub sum-delivers : {w : Wide} → w ≡ summed (q .scale .base) (q .scale .digits) d x y → Delivers (q .format) w (roundedSum (q .format) d a b)
-    unfolding roundedZ
-    sum-delivers e = result-delivers (omega arith) (sum-result e)
+    module _ {up down : ℕ} {w : Wide} where
+      pub product-delivers : up ≡ aboveZero (q .format .emin) → down ≡ belowZero (q .format .emin)
+          → Rounds (q .scale .base) (q .scale .digits) d (xor (x .negative) (y .negative)) (sizeOf (q .scale .base) x * sizeOf (q .scale .base) y * q .scale .base ^ up) (q .scale .base ^ down) w
+          → Delivers (q .format) w (roundedProduct (q .format) d a b)
+      unfolding roundedProduct magnitude
+      product-delivers eu ed h = rounds-delivers (rw (ex, ey, eu, ed, scale-is) at h)
 
-    product-result : {up down : ℕ} {w : Wide} → up ≡ aboveZero (q .format .emin) → down ≡ belowZero (q .format .emin)
-        → w ≡ multiplied (q .scale .base) (q .scale .digits) d x y up down
-        → Result (q .format .base) (q .format .digits) d (xor (a .negative) (b .negative))
-        (magnitude (q .format) a * magnitude (q .format) b * q .format .base ^ aboveZero (q .format .emin)) (q .format .base ^ belowZero (q .format .emin)) w
-    unfolding magnitude
-    product-result eu ed e =
-        rw (e, ex, ey, eu, ed, scale-is) (multiplied-result (positional (known u .admits)) d (wideOf (q .format) a) (wideOf (q .format) b) _ _)
-
-    pub product-delivers : {up down : ℕ} {w : Wide} → up ≡ aboveZero (q .format .emin) → down ≡ belowZero (q .format .emin)
-        → w ≡ multiplied (q .scale .base) (q .scale .digits) d x y up down → Delivers (q .format) w (roundedProduct (q .format) d a b)
-    unfolding roundedProduct
-    product-delivers eu ed e = result-delivers (pow-pos (known u .admits .base-low) _) (product-result eu ed e)
-
-    quotient-result : {up down : ℕ} {w : Wide} → 1 ≤ b .significand → up ≡ belowZero (q .format .emin) → down ≡ aboveZero (q .format .emin)
-        → w ≡ divided (q .scale .base) (q .scale .digits) d x y up down
-        → Result (q .format .base) (q .format .digits) d (xor (a .negative) (b .negative))
-        (magnitude (q .format) a * q .format .base ^ belowZero (q .format .emin)) (magnitude (q .format) b * q .format .base ^ aboveZero (q .format .emin)) w
-    unfolding magnitude
-    quotient-result h eu ed e =
-        rw (e, ex, ey, eu, ed, scale-is) (divided-result (positional (known u .admits)) d (wideOf (q .format) a) (wideOf (q .format) b) _ _ h)
-
-    pub quotient-delivers : {up down : ℕ} {w : Wide} → 1 ≤ b .significand → up ≡ belowZero (q .format .emin) → down ≡ aboveZero (q .format .emin)
-        → w ≡ divided (q .scale .base) (q .scale .digits) d x y up down → Delivers (q .format) w (roundedQuotient (q .format) d a b)
-    quotient-delivers h eu ed e =
-        let ok = known u .admits in
-        rw (divisor-some ok d a b h) (result-delivers (divisor-positive ok b h) (quotient-result h eu ed e))
+      pub quotient-delivers : 1 ≤ b .significand → up ≡ belowZero (q .format .emin) → down ≡ aboveZero (q .format .emin)
+          → Rounds (q .scale .base) (q .scale .digits) d (xor (x .negative) (y .negative)) (sizeOf (q .scale .base) x * q .scale .base ^ up) (sizeOf (q .scale .base) y * q .scale .base ^ down) w
+          → Delivers (q .format) w (roundedQuotient (q .format) d a b)
+      unfolding magnitude
+      quotient-delivers some eu ed h = rw (divisor-some (known u .admits) d a b some) (rounds-delivers (rw (ex, ey, eu, ed, scale-is) at h))
 
   pub fraction-delivers : (d : Direction) (n : ℤ) {m up down k : ℕ} {negative : Bool} {w : Wide} → 1 ≤ m
-      → up ≡ belowZero (q .format .emin) → down ≡ aboveZero (q .format .emin) → negative ≡ is-negative n → k ≡ natAbs n
-      → w ≡ wide.delivered (q .scale .base) (q .scale .digits) d negative (k * q .scale .base ^ up) (m * q .scale .base ^ down)
+      → up ≡ belowZero (q .format .emin) → down ≡ aboveZero (q .format .emin) → negative ≡ isNegative n → k ≡ natAbs n
+      → Rounds (q .scale .base) (q .scale .digits) d negative (k * q .scale .base ^ up) (m * q .scale .base ^ down) w
       → Delivers (q .format) w (roundedFraction (q .format) d n m)
-  fraction-delivers d n {m} h eu ed es ek e =
-      let ok = known u .admits in
-      let size : 1 ≤ m * q .format .base ^ aboveZero (q .format .emin) = mul-pos h (pow-pos (ok .base-low) (aboveZero (q .format .emin))) in
-      rw (denominator-some (q .format) d n h, e, es, ek, eu, ed, scale-is) (result-delivers size (delivered-result (positional ok) d (is-negative n) _ _ size))
+  fraction-delivers d n some eu ed es ek h =
+      rw (denominator-some (q .format) d n some) (rounds-delivers (rw (es, ek, eu, ed, scale-is) at h))
+
+-- ---- two numbers in the order of their exponents
+pub record Aligned (q : Prepared) (a b high low : Number) : Type 0 where
+  pub operands : Operands q high low
+  pub order : Upto (low .exponent) (high .exponent)
+  pub sum : value (q .format) high +ℤ value (q .format) low ≡ value (q .format) a +ℤ value (q .format) b
+
+pub aligned : {q : Prepared} {a b : Number} → Operands q a b → (t : Bool) → ltZ (a .exponent) (b .exponent) ≡ t → Aligned q a b (cond t b a) (cond t a b)
+aligned {q} {a} {b} o true e =
+    record {
+      operands = record { usable = o .usable; first = o .second; second = o .first };
+      order = let l = lt-true (a .exponent) (b .exponent) e in omega arith;
+      sum = +ℤ-comm (value (q .format) b) (value (q .format) a);
+    }
+aligned {q} {a} {b} o false e = record { operands = o; order = lt-false (a .exponent) (b .exponent) e; sum = refl }
+
+-- the place of the higher one is that of the lower one and the distance between their exponents
+pub place-apart : {f : Format} {high low : Number} → Member f high → Member f low → Upto (low .exponent) (high .exponent)
+    → placeOf f low + natAbs (high .exponent -ℤ low .exponent) ≡ placeOf f high
+place-apart {f} {high} {low} i j l =
+    omega (
+      arith,
+      size-parts (high .exponent -ℤ low .exponent),
+      diff-parts (high .exponent) (low .exponent),
+      apart (high .exponent -ℤ low .exponent),
+      size-parts (high .exponent -ℤ f .emin),
+      diff-parts (high .exponent) (f .emin),
+      apart (high .exponent -ℤ f .emin),
+      size-parts (low .exponent -ℤ f .emin),
+      diff-parts (low .exponent) (f .emin),
+      apart (low .exponent -ℤ f .emin),
+      i .exponent-low,
+      j .exponent-low,
+    )

@@ -1,3 +1,4 @@
--- What the four operations answer.
+-- What the four operations and the fraction answer.
 pub mod Operands
 pub mod Operations
+pub mod Outcomes

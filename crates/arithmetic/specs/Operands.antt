@@ -2,7 +2,7 @@
 use Rattle.format.specs.declared.Format.{Format}
 use Rattle.number.specs.declared.Number.{Number}
 use Rattle.number.specs.Numbers.{placeOf}
-use Rattle.wide.specs.declared.Wide.{Wide}
+use Rattle.rounding.specs.declared.Wide.{Wide}
 
 -- the same sign and significand, with the place in units of β ^ Emin
 abbrev pub wideOf : Format → Number → Wide

@@ -7,68 +7,66 @@ use lib.Dec.{eqb}
 use lib.IntN.{ℤ, natAbs, _+ℤ_, _-ℤ_}
 use Rattle.theory.specs.Round.{round}
 use Rattle.theory.specs.declared.Direction.{Direction}
-use Rattle.theory.specs.Signed.{is-negative}
+use Rattle.theory.specs.Signed.{isNegative}
 use Rattle.format.specs.declared.Format.{Format}
-use Rattle.format.specs.declared.Refusal.the-variants.{DivisorZero}
 use Rattle.format.specs.Directions.{direction}
+use Rattle.format.specs.Given.{Given, refused}
 use Rattle.number.specs.declared.Number.{Number}
-use Rattle.number.specs.declared.Answer.{Answer}
-use Rattle.number.specs.declared.Answer.the-variants.{Refused}
 use Rattle.number.specs.Exponents.{aboveZero, belowZero}
 use Rattle.number.specs.Numbers.{magnitude, value, delivered}
-use Rattle.number.specs.Entry.{entry, after}
+use Rattle.number.specs.Checks.{checked}
 
 -- ---- an exact result, rounded among the numbers of the wide format; refusal 5 above the greatest number of the format
 -- ± N / D units
-unfoldable pub rounded : Format → Direction → (negative : Bool) (N D : ℕ) → Answer
+unfoldable pub rounded : Format → Direction → (negative : Bool) (N D : ℕ) → Given Number
 rounded f d negative N D = delivered f negative (round (f .base) (f .digits) d negative N D)
 
 -- z units
-unfoldable pub roundedZ : Format → Direction → ℤ → Answer
-roundedZ f d z = rounded f d (is-negative z) (natAbs z) 1
+unfoldable pub roundedZ : Format → Direction → ℤ → Given Number
+roundedZ f d z = rounded f d (isNegative z) (natAbs z) 1
 
 -- ---- of two numbers of the format
-abbrev pub roundedSum : Format → Direction → (a b : Number) → Answer
+abbrev pub roundedSum : Format → Direction → (a b : Number) → Given Number
 roundedSum f d a b = roundedZ f d (value f a +ℤ value f b)
 
-abbrev pub roundedDifference : Format → Direction → (a b : Number) → Answer
+abbrev pub roundedDifference : Format → Direction → (a b : Number) → Given Number
 roundedDifference f d a b = roundedZ f d (value f a -ℤ value f b)
 
 -- the product of v and w units is v × w × β ^ Emin units
-unfoldable pub roundedProduct : Format → Direction → (a b : Number) → Answer
+unfoldable pub roundedProduct : Format → Direction → (a b : Number) → Given Number
 roundedProduct f d a b =
     rounded f d (xor (a .negative) (b .negative)) (magnitude f a * magnitude f b * f .base ^ aboveZero (f .emin)) (f .base ^ belowZero (f .emin))
 
 -- the quotient of v and w units is v / (w × β ^ Emin) units; refusal 4 where the divisor is zero
-unfoldable pub roundedQuotient : Format → Direction → (a b : Number) → Answer
+unfoldable pub roundedQuotient : Format → Direction → (a b : Number) → Given Number
 roundedQuotient f d a b =
-    cond (eqb (magnitude f b) 0) (Refused DivisorZero)
+    cond (eqb (magnitude f b) 0) (refused 4)
     (rounded f d (xor (a .negative) (b .negative)) (magnitude f a * f .base ^ belowZero (f .emin)) (magnitude f b * f .base ^ aboveZero (f .emin)))
 
 -- ---- of two whole numbers
 -- n / m is n / (m × β ^ Emin) units; refusal 4 where the denominator m is zero
-unfoldable pub roundedFraction : Format → Direction → (n : ℤ) (m : ℕ) → Answer
+unfoldable pub roundedFraction : Format → Direction → (n : ℤ) (m : ℕ) → Given Number
 roundedFraction f d n m =
-    cond (eqb m 0) (Refused DivisorZero)
-    (rounded f d (is-negative n) (natAbs n * f .base ^ belowZero (f .emin)) (m * f .base ^ aboveZero (f .emin)))
+    cond (eqb m 0) (refused 4)
+    (rounded f d (isNegative n) (natAbs n * f .base ^ belowZero (f .emin)) (m * f .base ^ aboveZero (f .emin)))
 
 -- ---- the public calls: refusals 1, 2 and 3 come first
 -- the answer of sum
-unfoldable pub summed : Format → (d : ℕ) (a b : Number) → Answer
-summed f d a b = after (entry f (d ∷ []) (a ∷ b ∷ [])) Refused (roundedSum f (direction d) a b)
+unfoldable pub summed : Format → (d : ℕ) (a b : Number) → Given Number
+summed f d a b = checked f (d ∷ []) (a ∷ b ∷ []) (roundedSum f (direction d) a b)
 
 -- the answer of difference
-unfoldable pub subtracted : Format → (d : ℕ) (a b : Number) → Answer
-subtracted f d a b = after (entry f (d ∷ []) (a ∷ b ∷ [])) Refused (roundedDifference f (direction d) a b)
+unfoldable pub subtracted : Format → (d : ℕ) (a b : Number) → Given Number
+subtracted f d a b = checked f (d ∷ []) (a ∷ b ∷ []) (roundedDifference f (direction d) a b)
 
 -- the answer of product
-unfoldable pub multiplied : Format → (d : ℕ) (a b : Number) → Answer
-multiplied f d a b = after (entry f (d ∷ []) (a ∷ b ∷ [])) Refused (roundedProduct f (direction d) a b)
+unfoldable pub multiplied : Format → (d : ℕ) (a b : Number) → Given Number
+multiplied f d a b = checked f (d ∷ []) (a ∷ b ∷ []) (roundedProduct f (direction d) a b)
 
 -- the answer of quotient
-unfoldable pub divided : Format → (d : ℕ) (a b : Number) → Answer
-divided f d a b = after (entry f (d ∷ []) (a ∷ b ∷ [])) Refused (roundedQuotient f (direction d) a b)
+unfoldable pub divided : Format → (d : ℕ) (a b : Number) → Given Number
+divided f d a b = checked f (d ∷ []) (a ∷ b ∷ []) (roundedQuotient f (direction d) a b)
 
 -- the answer of fraction
-unfoldable pub fractioned : Format → (d : ℕ) (numerator : ℤ) (denominator : ℕ) → Answer
-fractioned f d numerator denominator = after (entry f (d ∷ []) []) Refused (roundedFraction f (direction d) numerator denominator)
+unfoldable pub fractioned : Format → (d : ℕ) (numerator : ℤ) (denominator : ℕ) → Given Number
+fractioned f d numerator denominator = checked f (d ∷ []) [] (roundedFraction f (direction d) numerator denominator)

@@ -6,17 +6,17 @@ use format::Prepared;
 use format::Refusal;
 use format::admission::prepare;
 use format::directions::direction_of;
-use number::Answer;
-use number::entry::with_direction;
+use number::NumberAnswer;
+use number::checks::with_direction;
 use number::exponents::above_zero;
 use number::exponents::below_zero;
 use theory::Direction;
 ghost use mathlib.Core.Path.{_≡_};
 ghost use lib.IntN.{natAbs};
-ghost use Rattle.theory.specs.Signed.{is-negative};
-ghost use Rattle.number.specs.Entry.{Usable};
-ghost use Rattle.arithmetic.specs.Operations.{roundedFraction};
-ghost use Rattle.arithmetic.specs.Operations.{fractioned};
+ghost use Rattle.theory.specs.Signed.{isNegative};
+ghost use Rattle.number.specs.Answers.{numberGiven};
+ghost use Rattle.number.specs.Checks.{Usable};
+ghost use Rattle.arithmetic.specs.Operations.{roundedFraction, fractioned};
 
 // |n|, which is 2^31 for the least n: n + 1 has a negation of 32 bits.
 fn size(n: i32) -> u32
@@ -27,7 +27,7 @@ fn size(n: i32) -> u32
 
 // Is n below zero?
 fn is_below_zero(n: i32) -> bool
-    ensures { λ r. ⌜ r ≡ is-negative n ⌝ }
+    ensures { λ r. ⌜ r ≡ isNegative n ⌝ }
 {
     n < 0
 }
@@ -38,12 +38,12 @@ pub fn divide_whole(
     direction: Direction,
     numerator: i32,
     denominator: u32,
-) -> Answer
+) -> NumberAnswer
     requires { ⌜ Usable prepared ⌝ }
-    ensures { λ r. ⌜ r ≡ roundedFraction (prepared .format) direction numerator denominator ⌝ }
+    ensures { λ r. ⌜ numberGiven r ≡ roundedFraction (prepared .format) direction numerator denominator ⌝ }
 {
     if denominator == 0 {
-        return Answer::Refused(Refusal::DivisorZero);
+        return NumberAnswer::Refused(Refusal::DivisorZero);
     }
     let scale = prepared.scale;
     let up = below_zero(prepared.format.emin);
@@ -57,11 +57,11 @@ pub fn divide_whole(
 }
 
 // numerator / denominator. Refuses 1, 2, 4, 5.
-pub fn fraction(format: Format, direction: u32, numerator: i32, denominator: u32) -> Answer
-    ensures { λ r. ⌜ r ≡ fractioned format direction numerator denominator ⌝ }
+pub fn fraction(format: Format, direction: u32, numerator: i32, denominator: u32) -> NumberAnswer
+    ensures { λ r. ⌜ numberGiven r ≡ fractioned format direction numerator denominator ⌝ }
 {
     match with_direction(prepare(format), direction) {
-        Preparation::Refused(why) => Answer::Refused(why),
+        Preparation::Refused(why) => NumberAnswer::Refused(why),
         Preparation::Ready(prepared) => {
             divide_whole(prepared, direction_of(direction), numerator, denominator)
         }

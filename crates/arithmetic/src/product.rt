@@ -6,24 +6,22 @@ use format::Preparation;
 use format::Prepared;
 use format::admission::prepare;
 use format::directions::direction_of;
-use number::Answer;
 use number::Number;
-use number::entry::with_direction;
-use number::entry::with_number;
+use number::NumberAnswer;
+use number::checks::with_direction;
+use number::checks::with_number;
 use number::exponents::above_zero;
 use number::exponents::below_zero;
 use theory::Direction;
 ghost use mathlib.Core.Path.{_≡_};
-ghost use mathlib.Core.Bool.{true};
-ghost use Rattle.number.specs.Numbers.{member};
-ghost use Rattle.number.specs.Entry.{Usable};
-ghost use Rattle.arithmetic.specs.Operations.{roundedProduct};
-ghost use Rattle.arithmetic.specs.Operations.{multiplied};
+ghost use Rattle.number.specs.Answers.{numberGiven};
+ghost use Rattle.number.specs.Checks.{Operands};
+ghost use Rattle.arithmetic.specs.Operations.{roundedProduct, multiplied};
 
 // a * b, in a format that was prepared. Refuses 5.
-pub fn multiply(prepared: Prepared, direction: Direction, a: Number, b: Number) -> Answer
-    requires { ⌜ Usable prepared × (member (prepared .format) a ≡ true) × (member (prepared .format) b ≡ true) ⌝ }
-    ensures { λ r. ⌜ r ≡ roundedProduct (prepared .format) direction a b ⌝ }
+pub fn multiply(prepared: Prepared, direction: Direction, a: Number, b: Number) -> NumberAnswer
+    requires { ⌜ Operands prepared a b ⌝ }
+    ensures { λ r. ⌜ numberGiven r ≡ roundedProduct (prepared .format) direction a b ⌝ }
 {
     let scale = prepared.scale;
     let x = wide_of(prepared, a);
@@ -37,12 +35,12 @@ pub fn multiply(prepared: Prepared, direction: Direction, a: Number, b: Number) 
 }
 
 // a * b. Refuses 1, 2, 3, 5.
-pub fn product(format: Format, direction: u32, a: Number, b: Number) -> Answer
-    ensures { λ r. ⌜ r ≡ multiplied format direction a b ⌝ }
+pub fn product(format: Format, direction: u32, a: Number, b: Number) -> NumberAnswer
+    ensures { λ r. ⌜ numberGiven r ≡ multiplied format direction a b ⌝ }
 {
     let directed = with_direction(prepare(format), direction);
     match with_number(with_number(directed, b), a) {
-        Preparation::Refused(why) => Answer::Refused(why),
+        Preparation::Refused(why) => NumberAnswer::Refused(why),
         Preparation::Ready(prepared) => multiply(prepared, direction_of(direction), a, b),
     }
 }

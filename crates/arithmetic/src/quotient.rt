@@ -7,27 +7,25 @@ use format::Prepared;
 use format::Refusal;
 use format::admission::prepare;
 use format::directions::direction_of;
-use number::Answer;
 use number::Number;
-use number::entry::with_direction;
-use number::entry::with_number;
+use number::NumberAnswer;
+use number::checks::with_direction;
+use number::checks::with_number;
 use number::exponents::above_zero;
 use number::exponents::below_zero;
 use theory::Direction;
 ghost use mathlib.Core.Path.{_≡_};
-ghost use mathlib.Core.Bool.{true};
-ghost use Rattle.number.specs.Numbers.{member};
-ghost use Rattle.number.specs.Entry.{Usable};
-ghost use Rattle.arithmetic.specs.Operations.{roundedQuotient};
-ghost use Rattle.arithmetic.specs.Operations.{divided};
+ghost use Rattle.number.specs.Answers.{numberGiven};
+ghost use Rattle.number.specs.Checks.{Operands};
+ghost use Rattle.arithmetic.specs.Operations.{roundedQuotient, divided};
 
 // a / b, in a format that was prepared. Refuses 4, 5.
-pub fn divide(prepared: Prepared, direction: Direction, a: Number, b: Number) -> Answer
-    requires { ⌜ Usable prepared × (member (prepared .format) a ≡ true) × (member (prepared .format) b ≡ true) ⌝ }
-    ensures { λ r. ⌜ r ≡ roundedQuotient (prepared .format) direction a b ⌝ }
+pub fn divide(prepared: Prepared, direction: Direction, a: Number, b: Number) -> NumberAnswer
+    requires { ⌜ Operands prepared a b ⌝ }
+    ensures { λ r. ⌜ numberGiven r ≡ roundedQuotient (prepared .format) direction a b ⌝ }
 {
     if b.significand == 0 {
-        return Answer::Refused(Refusal::DivisorZero);
+        return NumberAnswer::Refused(Refusal::DivisorZero);
     }
     let scale = prepared.scale;
     let x = wide_of(prepared, a);
@@ -41,12 +39,12 @@ pub fn divide(prepared: Prepared, direction: Direction, a: Number, b: Number) ->
 }
 
 // a / b. Refuses 1, 2, 3, 4, 5.
-pub fn quotient(format: Format, direction: u32, a: Number, b: Number) -> Answer
-    ensures { λ r. ⌜ r ≡ divided format direction a b ⌝ }
+pub fn quotient(format: Format, direction: u32, a: Number, b: Number) -> NumberAnswer
+    ensures { λ r. ⌜ numberGiven r ≡ divided format direction a b ⌝ }
 {
     let directed = with_direction(prepare(format), direction);
     match with_number(with_number(directed, b), a) {
-        Preparation::Refused(why) => Answer::Refused(why),
+        Preparation::Refused(why) => NumberAnswer::Refused(why),
         Preparation::Ready(prepared) => divide(prepared, direction_of(direction), a, b),
     }
 }

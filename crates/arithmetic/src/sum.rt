@@ -4,58 +4,86 @@ use crate::operands::wide_of;
 use format::Format;
 use format::Preparation;
 use format::Prepared;
+use format::admission::distance;
 use format::admission::prepare;
 use format::directions::direction_of;
-use number::Answer;
 use number::Number;
-use number::entry::with_direction;
-use number::entry::with_number;
+use number::NumberAnswer;
+use number::checks::with_direction;
+use number::checks::with_number;
 use number::signs::with_sign;
+use rounding::Wide;
 use theory::Direction;
+use wide::sum::aligned_sum;
 ghost use mathlib.Core.Path.{_≡_};
-ghost use mathlib.Core.Bool.{true};
-ghost use Rattle.number.specs.Numbers.{member};
-ghost use Rattle.number.specs.Entry.{Usable};
-ghost use Rattle.arithmetic.specs.Operations.{roundedSum, roundedDifference};
-ghost use Rattle.arithmetic.specs.Operations.{summed, subtracted};
+ghost use mathlib.Core.Bool.{cond};
+ghost use Rattle.number.specs.Answers.{numberGiven};
+ghost use Rattle.number.specs.Checks.{Operands};
+ghost use Rattle.arithmetic.specs.Operations.{roundedSum, roundedDifference, summed, subtracted};
 
-// a + b, in a format that was prepared. Refuses 5.
-pub fn add(prepared: Prepared, direction: Direction, a: Number, b: Number) -> Answer
-    requires { ⌜ Usable prepared × (member (prepared .format) a ≡ true) × (member (prepared .format) b ≡ true) ⌝ }
-    ensures { λ r. ⌜ r ≡ roundedSum (prepared .format) direction a b ⌝ }
+// One of two numbers, selected field by field: which of them has the higher exponent is not predictable.
+fn select(test: bool, yes: Number, no: Number) -> Number
+    ensures { λ r. ⌜ r ≡ cond test yes no ⌝ }
 {
+    let negative = if test { yes.negative } else { no.negative };
+    let significand = if test {
+        yes.significand
+    } else {
+        no.significand
+    };
+    let exponent = if test { yes.exponent } else { no.exponent };
+    Number {
+        negative: negative,
+        significand: significand,
+        exponent: exponent,
+    }
+}
+
+// a + b, in a format that was prepared. The alignment distance is the difference of the two exponents. Refuses 5.
+pub fn add(prepared: Prepared, direction: Direction, a: Number, b: Number) -> NumberAnswer
+    requires { ⌜ Operands prepared a b ⌝ }
+    ensures { λ r. ⌜ numberGiven r ≡ roundedSum (prepared .format) direction a b ⌝ }
+{
+    let turned = a.exponent < b.exponent;
+    let high = select(turned, b, a);
+    let low = select(turned, a, b);
+    let gap = distance(low.exponent, high.exponent);
+    let y = wide_of(prepared, low);
+    let x = Wide {
+        negative: high.negative,
+        significand: high.significand,
+        place: y.place + gap,
+    };
     let scale = prepared.scale;
-    let x = wide_of(prepared, a);
-    let y = wide_of(prepared, b);
-    deliver_wide(prepared, wide::sum::sum(scale, direction, x, y))
+    deliver_wide(prepared, aligned_sum(scale, direction, x, y, gap))
 }
 
 // a - b, in a format that was prepared. Refuses 5.
-pub fn subtract(prepared: Prepared, direction: Direction, a: Number, b: Number) -> Answer
-    requires { ⌜ Usable prepared × (member (prepared .format) a ≡ true) × (member (prepared .format) b ≡ true) ⌝ }
-    ensures { λ r. ⌜ r ≡ roundedDifference (prepared .format) direction a b ⌝ }
+pub fn subtract(prepared: Prepared, direction: Direction, a: Number, b: Number) -> NumberAnswer
+    requires { ⌜ Operands prepared a b ⌝ }
+    ensures { λ r. ⌜ numberGiven r ≡ roundedDifference (prepared .format) direction a b ⌝ }
 {
     add(prepared, direction, a, with_sign(b, !b.negative))
 }
 
 // a + b. Refuses 1, 2, 3, 5.
-pub fn sum(format: Format, direction: u32, a: Number, b: Number) -> Answer
-    ensures { λ r. ⌜ r ≡ summed format direction a b ⌝ }
+pub fn sum(format: Format, direction: u32, a: Number, b: Number) -> NumberAnswer
+    ensures { λ r. ⌜ numberGiven r ≡ summed format direction a b ⌝ }
 {
     let directed = with_direction(prepare(format), direction);
     match with_number(with_number(directed, b), a) {
-        Preparation::Refused(why) => Answer::Refused(why),
+        Preparation::Refused(why) => NumberAnswer::Refused(why),
         Preparation::Ready(prepared) => add(prepared, direction_of(direction), a, b),
     }
 }
 
 // a - b. Refuses 1, 2, 3, 5.
-pub fn difference(format: Format, direction: u32, a: Number, b: Number) -> Answer
-    ensures { λ r. ⌜ r ≡ subtracted format direction a b ⌝ }
+pub fn difference(format: Format, direction: u32, a: Number, b: Number) -> NumberAnswer
+    ensures { λ r. ⌜ numberGiven r ≡ subtracted format direction a b ⌝ }
 {
     let directed = with_direction(prepare(format), direction);
     match with_number(with_number(directed, b), a) {
-        Preparation::Refused(why) => Answer::Refused(why),
+        Preparation::Refused(why) => NumberAnswer::Refused(why),
         Preparation::Ready(prepared) => subtract(prepared, direction_of(direction), a, b),
     }
 }

@@ -1,11 +1,5 @@
 -- The parts of a pattern as the significand and the place of a number of published format 2.
-use Prim.Native.Nat.{ℕ, zero, suc, _+_, _*_, _-_, _^_, _<_}
-use mathlib.Core.Path.{_≡_, refl, ap, _∙_}
-use mathlib.Core.Bool.{Bool, true, false, not, cond}
-use mathlib.Core.Logic.{inl, inr}
-use native.Mathlib.Omega.{arith}
-use lib.Dec.{eqb}
-use borrow.Author.Tests.{eqb-true, eqb-false, ne-eqb}
+use Rattle.theory.proofs.Prelude.{ℕ, _<_, _+_, _^_, _*_, _-_, suc, zero, true, false, Bool, cond, not, inl, inr, _∙_, ap, _≡_, refl, arith, eqb, ne-eqb, eqb-true, eqb-false}
 use Rattle.theory.specs.Wide.{Canonical}
 use Rattle.theory.proofs.Tests.{never, not-true}
 use Rattle.format.specs.Formats.{admitted}

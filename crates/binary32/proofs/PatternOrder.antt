@@ -1,26 +1,15 @@
 -- The values of patterns are in the order of the patterns, taken as a sign and a number of 31 bits: different patterns have
 -- different values, but for those of plus and minus zero.
-use Prim.Native.Nat.{ℕ, zero, suc, _+_, _*_, _-_, _%_, _^_, _≤_, _<_}
-use mathlib.Core.Path.{_≡_, refl, sym, ap, ap₂, _∙_}
-use mathlib.Core.Bool.{Bool, true, false, cond}
-use mathlib.Core.Logic.{⊎-elim, _≢_}
-use native.Mathlib.Nat.{eq-or-lt-of-le, mul-lt-mul-of-pos-right, mul-le-mul-right, mul-le-mul-left}
-use native.Mathlib.Decide.{decLe}
-use native.Mathlib.Omega.{arith}
-use lib.Dec.{eqb}
-use lib.IntN.{ℤ, pos, negℤ}
-use lib.Signed.{ltZ}
-use borrow.Author.Tests.{ne-eqb}
+use Rattle.theory.proofs.Prelude.{ℕ, _≤_, _<_, _+_, _^_, _*_, _-_, suc, zero, _%_, true, false, Bool, cond, ⊎-elim, _≢_, _∙_, ap, _≡_, sym, refl, ap₂, decLe, mul-le-mul-right, mul-le-mul-left, mul-lt-mul-of-pos-right, eq-or-lt-of-le, arith, eqb, ℤ, pos, negℤ, ltZ, ne-eqb}
 use Rattle.theory.specs.Signed.{signed}
 use Rattle.theory.proofs.Powers.{pow-pos, pow-half}
 use Rattle.theory.proofs.Integers.{above, below, neg-above, neg-below}
 use Rattle.format.specs.Published.{binary32}
 use Rattle.format.proofs.Signed.{Upto, Under, lt-true, lt-false, make-lt, make-ge}
 use Rattle.number.specs.declared.Number.{Number}
-use Rattle.number.specs.declared.Answer.the-variants.{Value}
+use Rattle.format.specs.Given.{Given, gives, refused}
 use Rattle.number.specs.Numbers.{value}
 use Rattle.number.proofs.Values.{member-unique}
-use Rattle.binary32.specs.declared.Pattern.the-variants.{Written}
 use Rattle.binary32.specs.Patterns.{signOf, fieldOf, fractionOf, magnitudeRead, patternRead, patternWritten}
 use Rattle.binary32.proofs.Fields.{binary32-limits}
 use Rattle.binary32.proofs.RoundTrips.{reads, read-inside, read-value, read-written}
@@ -128,7 +117,7 @@ magnitudes-ordered a b =
     positive h (yes l) = omega (arith, magnitude-less 0 a (omega arith))
     positive h (no l) = omega (arith, magnitude-less 0 b (omega arith))
 
-module _ (a b : ℕ) {x y : Number} (r : patternRead a ≡ Value x) (q : patternRead b ≡ Value y) where
+module _ (a b : ℕ) {x y : Number} (r : patternRead a ≡ gives x) (q : patternRead b ≡ gives y) where
   -- the order of the values is that of the patterns
   pub read-order : ltZ (value binary32 x) (value binary32 y) ≡ ltZ (signedPattern a) (signedPattern b)
   read-order = ap₂ ltZ (read-value a r) (read-value b q) ∙ signed-order (magnitudes-ordered a b) (signOf a) (signOf b)
@@ -137,5 +126,5 @@ module _ (a b : ℕ) {x y : Number} (r : patternRead a ≡ Value x) (q : pattern
   pub read-unique : a < 2 ^ 32 → b < 2 ^ 32 → a ≢ 2 ^ 31 → b ≢ 2 ^ 31 → value binary32 x ≡ value binary32 y → a ≡ b
   read-unique ha hb na nb e =
       let same : x ≡ y = member-unique binary32-limits (read-inside (reads a r)) (read-inside (reads b q)) e in
-      let one : Written a ≡ Written b = sym (read-written a ha na r) ∙ ap patternWritten same ∙ read-written b hb nb q in
+      let one : gives a ≡ gives b = sym (read-written a ha na r) ∙ ap patternWritten same ∙ read-written b hb nb q in
       cc

@@ -1,19 +1,15 @@
 -- The places of the number that a finite pattern stands for, as patterns.
-use Prim.Native.Nat.{ℕ, zero, suc, _+_, _*_, _-_, _/_, _%_, _^_, _≤_, _<_}
-use mathlib.Core.Path.{_≡_, refl, sym, ap, ap₂, _∙_}
-use mathlib.Core.Bool.{Bool, true, false}
-use native.Mathlib.Omega.{arith}
-use borrow.Author.Tests.{eq-eqb, ne-eqb, lt-leb}
+use Rattle.theory.proofs.Prelude.{ℕ, _≤_, _<_, _+_, _^_, _*_, _-_, suc, zero, _%_, _/_, true, false, Bool, _∙_, ap, _≡_, sym, refl, ap₂, arith, ne-eqb, eq-eqb, lt-leb}
 use Rattle.theory.specs.Units.{ufp, ulp}
 use Rattle.theory.proofs.Powers.{pow-add, pow-mono}
 use Rattle.theory.proofs.Units.{ufp-le, ufp-unique, ufp-shift, ulp-canonical}
+use Rattle.format.specs.Given.{gives}
 use Rattle.format.specs.Published.{binary32}
 use Rattle.format.proofs.Formats.{positional}
 use Rattle.number.specs.Numbers.{number}
 use Rattle.number.proofs.Membership.{Member}
 use Rattle.units.specs.Places.{firstPlace, lastPlace}
-use Rattle.units.proofs.Entered.{checked}
-use Rattle.binary32.specs.declared.Pattern.the-variants.{Written}
+use Rattle.number.proofs.CheckLaws.{one-checked}
 use Rattle.binary32.specs.Patterns.{fieldOf, fractionOf, finite, magnitudeRead, numberRead, patternOf, answerWritten}
 use Rattle.binary32.proofs.Fields.{binary32-limits, significandOf, significand-canonical, magnitude-is, finite-field}
 use Rattle.binary32.proofs.RoundTrips.{read-made, read-inside, read-magnitude, pattern-back}
@@ -39,22 +35,22 @@ module _ (n : ℕ) (h : finite n ≡ true) where
   inside = read-inside {n = n} (record { finite = h; is = refl })
 
   -- ---- ufp
-  ufp-answer : (k : ℕ) → k < 2 ^ 31 → magnitudeRead k ≡ ufp 2 (magnitudeRead n) → Written k ≡ answerWritten (firstPlace binary32 (numberRead n))
+  ufp-answer : (k : ℕ) → k < 2 ^ 31 → magnitudeRead k ≡ ufp 2 (magnitudeRead n) → gives k ≡ answerWritten (firstPlace binary32 (numberRead n))
   unfolding firstPlace
   ufp-answer k l e =
       sym
-      (ap answerWritten (checked binary32-limits inside)
-      ∙ ap (λ (m : ℕ). Written (patternOf (number binary32 false (ufp 2 m)))) (read-magnitude n (read-made n h))
-      ∙ ap Written (place-pattern k l e))
+      (ap answerWritten (one-checked binary32-limits inside)
+      ∙ ap (λ (m : ℕ). gives (patternOf (number binary32 false (ufp 2 m)))) (read-magnitude n (read-made n h))
+      ∙ ap gives (place-pattern k l e))
 
-  pub ufp-small : (k : ℕ) → n % 2 ^ 31 < 2 ^ 23 → k ≡ ufp 2 (n % 2 ^ 31) → Written k ≡ answerWritten (firstPlace binary32 (numberRead n))
+  pub ufp-small : (k : ℕ) → n % 2 ^ 31 < 2 ^ 23 → k ≡ ufp 2 (n % 2 ^ 31) → gives k ≡ answerWritten (firstPlace binary32 (numberRead n))
   ufp-small k s e =
       let most : k ≤ n % 2 ^ 31 = omega (arith, ufp-le {β = 2} (omega arith) (n % 2 ^ 31)) in
       let own : magnitudeRead k ≡ k = small-magnitude k (omega arith) ∙ omega arith in
       let size : magnitudeRead n ≡ n % 2 ^ 31 = small-magnitude n (omega arith) ∙ omega arith in
       ufp-answer k (omega arith) (own ∙ e ∙ ap (ufp 2) (sym size))
 
-  pub ufp-normal : 2 ^ 23 ≤ n % 2 ^ 31 → Written (n % 2 ^ 31 / 2 ^ 23 * 2 ^ 23) ≡ answerWritten (firstPlace binary32 (numberRead n))
+  pub ufp-normal : 2 ^ 23 ≤ n % 2 ^ 31 → gives (n % 2 ^ 31 / 2 ^ 23 * 2 ^ 23) ≡ answerWritten (firstPlace binary32 (numberRead n))
   ufp-normal s =
       let E : ℕ = fieldOf n - 1 in
       let F : ℕ = fractionOf n in
@@ -65,15 +61,15 @@ module _ (n : ℕ) (h : finite n ≡ true) where
       ufp-answer k (omega arith) (power ∙ sym (ap (ufp 2) size ∙ ufp-shift {β = 2} (omega arith) (2 ^ 23 + F) E ∙ ap (λ (m : ℕ). m * 2 ^ E) first))
 
   -- ---- ulp
-  ulp-answer : (k : ℕ) → k < 2 ^ 31 → magnitudeRead k ≡ ulp 2 24 (magnitudeRead n) → Written k ≡ answerWritten (lastPlace binary32 (numberRead n))
+  ulp-answer : (k : ℕ) → k < 2 ^ 31 → magnitudeRead k ≡ ulp 2 24 (magnitudeRead n) → gives k ≡ answerWritten (lastPlace binary32 (numberRead n))
   unfolding lastPlace
   ulp-answer k l e =
       sym
-      (ap answerWritten (checked binary32-limits inside)
-      ∙ ap (λ (m : ℕ). Written (patternOf (number binary32 false (ulp 2 24 m)))) (read-magnitude n (read-made n h))
-      ∙ ap Written (place-pattern k l e))
+      (ap answerWritten (one-checked binary32-limits inside)
+      ∙ ap (λ (m : ℕ). gives (patternOf (number binary32 false (ulp 2 24 m)))) (read-magnitude n (read-made n h))
+      ∙ ap gives (place-pattern k l e))
 
-  pub ulp-zero : n % 2 ^ 31 ≡ 0 → Written 0 ≡ answerWritten (lastPlace binary32 (numberRead n))
+  pub ulp-zero : n % 2 ^ 31 ≡ 0 → gives 0 ≡ answerWritten (lastPlace binary32 (numberRead n))
   unfolding ulp
   ulp-zero s =
       let size : magnitudeRead n ≡ 0 = small-magnitude n (omega arith) ∙ omega arith in
@@ -90,14 +86,14 @@ module _ (n : ℕ) (h : finite n ≡ true) where
       digits (suc E) e = rw (ne-eqb (suc E) 0 (λ z. omega arith)) (omega arith)
 
   -- up to place 22 it is a small number
-  pub ulp-small : (k : ℕ) → 1 ≤ n % 2 ^ 31 → n % 2 ^ 31 / 2 ^ 23 < 24 → k ≡ 2 ^ (n % 2 ^ 31 / 2 ^ 23 - 1) → Written k ≡ answerWritten (lastPlace binary32 (numberRead n))
+  pub ulp-small : (k : ℕ) → 1 ≤ n % 2 ^ 31 → n % 2 ^ 31 / 2 ^ 23 < 24 → k ≡ 2 ^ (n % 2 ^ 31 / 2 ^ 23 - 1) → gives k ≡ answerWritten (lastPlace binary32 (numberRead n))
   ulp-small k s l e =
       let field : fieldOf n ≡ n % 2 ^ 31 / 2 ^ 23 = omega arith in
       let most : k < 2 ^ 23 = omega (arith, pow-mono {β = 2} (omega arith) {i = n % 2 ^ 31 / 2 ^ 23 - 1} {j = 22} (omega arith)) in
       let own : magnitudeRead k ≡ k = small-magnitude k (omega arith) ∙ omega arith in
       ulp-answer k (omega arith) (own ∙ e ∙ ap (λ (f : ℕ). 2 ^ (f - 1)) (sym field) ∙ sym (field-place s))
 
-  pub ulp-normal : 24 ≤ n % 2 ^ 31 / 2 ^ 23 → Written ((n % 2 ^ 31 / 2 ^ 23 - 23) * 2 ^ 23) ≡ answerWritten (lastPlace binary32 (numberRead n))
+  pub ulp-normal : 24 ≤ n % 2 ^ 31 / 2 ^ 23 → gives ((n % 2 ^ 31 / 2 ^ 23 - 23) * 2 ^ 23) ≡ answerWritten (lastPlace binary32 (numberRead n))
   ulp-normal l =
       let E : ℕ = fieldOf n - 24 in
       let k : ℕ = (n % 2 ^ 31 / 2 ^ 23 - 23) * 2 ^ 23 in

@@ -1,16 +1,7 @@
 -- The values of patterns as whole multiples of 2 ^ -149: that of a finite pattern is the value of the number read, keys are in the
 -- order of the values, and what a list of patterns says of the list of its values.
-use Prim.Native.Nat.{ℕ, _+_, _-_, _%_, _^_, _≤_, _<_}
-use mathlib.Core.Path.{_≡_, refl, sym, ap, ap₂, _∙_}
-use mathlib.Core.Bool.{Bool, true, false, not, cond}
-use mathlib.Core.List.{List, map}
-use native.Mathlib.Omega.{arith}
-use lib.Dec.{ltb, eqb}
-use lib.IntN.{pos}
-use lib.ListN.{length, getD, length-map, List·getD-map}
-use lib.Signed.{ltZ}
-use native.Mathlib.Decide.{decLe}
-use borrow.Author.Tests.{eq-eqb, ne-eqb, lt-ltb, le-ltb, not-true, not-false, le-leb, lt-leb}
+use Rattle.theory.proofs.Prelude.{ℕ, _≤_, _<_, _+_, _^_, _-_, _%_, true, false, Bool, cond, not, List, map, _∙_, ap, _≡_, sym, refl, ap₂, decLe, arith, eqb, ltb, pos, length, getD, length-map, ltZ, ne-eqb, eq-eqb, le-leb, lt-leb, le-ltb, lt-ltb, not-true, not-false}
+use lib.ListN.{List·getD-map}
 use Rattle.theory.specs.Signed.{signed}
 use Rattle.theory.specs.Lists.{none}
 use Rattle.theory.specs.Tests.{_and_}

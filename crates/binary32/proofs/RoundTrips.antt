@@ -1,14 +1,6 @@
 -- What is read is in format 2, every finite pattern but 80000000 (hexadecimal) comes back when it is read and written, and every
 -- number of format 2 when it is written and read.
-use Prim.Native.Nat.{ℕ, zero, suc, _+_, _*_, _-_, _^_, _≤_, _<_}
-use mathlib.Core.Path.{_≡_, refl, ap, ap₂, subst, _∙_}
-use mathlib.Core.Bool.{Bool, true, false, not, _&&_, cond}
-use mathlib.Core.List.{[], _∷_}
-use mathlib.Core.Logic.{⊎-elim, _≢_}
-use native.Mathlib.Omega.{arith}
-use native.Mathlib.Decide.{decLe}
-use lib.Dec.{eqb}
-use borrow.Author.Tests.{eqb-true, ne-eqb, le-leb, lt-leb, leb-true, leb-false}
+use Rattle.theory.proofs.Prelude.{ℕ, _≤_, _<_, _+_, _^_, _*_, _-_, suc, zero, true, false, Bool, cond, not, _&&_, [], _∷_, ⊎-elim, _≢_, _∙_, ap, _≡_, refl, ap₂, subst, decLe, arith, eqb, ne-eqb, le-leb, leb-true, lt-leb, leb-false, eqb-true}
 use Rattle.theory.specs.Lists.{all}
 use Rattle.theory.specs.Tests.{_and_, unless}
 use Rattle.theory.specs.Wide.{Wide}
@@ -16,16 +8,14 @@ use Rattle.theory.specs.Signed.{signed}
 use Rattle.theory.proofs.Tests.{and-made, unless-passed}
 use Rattle.theory.proofs.Canonical.{canonical-wide}
 use Rattle.format.specs.Published.{binary32}
-use Rattle.format.specs.declared.Refusal.the-variants.{NumberNotInFormat, NotFinite}
 use Rattle.format.proofs.Formats.{positional}
 use Rattle.number.specs.declared.Number.{Number}
-use Rattle.number.specs.declared.Answer.the-variants as answer
+use Rattle.format.specs.Given.{Given, gives, refused}
 use Rattle.number.specs.Numbers.{member, placeOf, magnitude, value, number, greatest}
-use Rattle.number.specs.Entry.{entry, after}
+use Rattle.number.specs.Checks.{checked}
 use Rattle.number.proofs.Membership.{Member, members, member-made}
 use Rattle.number.proofs.Values.{written, place-there, canonical-within, member-canonical, member-highest, number-of, own-sign, number-magnitude, number-value, number-member}
-use Rattle.number.proofs.Entries.{entry-made}
-use Rattle.binary32.specs.declared.Pattern.the-variants as pattern
+use Rattle.number.proofs.CheckLaws.{checked-passed}
 use Rattle.binary32.specs.Patterns.{signOf, fieldOf, fractionOf, finite, magnitudeRead, numberRead, patternRead, patternOf, patternWritten}
 use Rattle.binary32.proofs.Fields.{binary32-admitted, binary32-limits, significandOf, significand-canonical, magnitude-is, finite-field, number-read}
 
@@ -35,15 +25,15 @@ pub record Reads (n : ℕ) (x : Number) : Type 0 where
   pub finite : finite n ≡ true
   pub is : x ≡ numberRead n
 
-pub reads : (n : ℕ) {x : Number} → patternRead n ≡ answer.Value x → Reads n x
+pub reads : (n : ℕ) {x : Number} → patternRead n ≡ gives x → Reads n x
 unfolding patternRead unless
 reads n {x} h = by (finite n) refl h
   where
-    by : (t : Bool) → finite n ≡ t → unless t (answer.Refused NotFinite) (answer.Value (numberRead n)) ≡ answer.Value x → Reads n x
+    by : (t : Bool) → finite n ≡ t → unless t (refused 9) (gives (numberRead n)) ≡ gives x → Reads n x
     by true e h = record { finite = e; is = cc }
     by false e h = absurd (let z : _≡_ {A = ℕ} 0 1 = cc in omega arith)
 
-pub read-made : (n : ℕ) → finite n ≡ true → patternRead n ≡ answer.Value (numberRead n)
+pub read-made : (n : ℕ) → finite n ≡ true → patternRead n ≡ gives (numberRead n)
 unfolding patternRead
 read-made n h = unless-passed _ _ h
 
@@ -61,30 +51,30 @@ unfolding numberRead
 read-inside {n} r = rw (r .is) (number-member binary32-limits (read-wide n) (signOf n) (read-within n (r .finite)))
 
 -- what is read is in format 2
-pub read-member : (n : ℕ) {x : Number} → patternRead n ≡ answer.Value x → member binary32 x ≡ true
+pub read-member : (n : ℕ) {x : Number} → patternRead n ≡ gives x → member binary32 x ≡ true
 read-member n {x} h = member-made x binary32-limits (read-inside (reads n h))
 
 -- and has the value that its parts say
-pub read-value : (n : ℕ) {x : Number} → patternRead n ≡ answer.Value x → value binary32 x ≡ signed (signOf n) (magnitudeRead n)
+pub read-value : (n : ℕ) {x : Number} → patternRead n ≡ gives x → value binary32 x ≡ signed (signOf n) (magnitudeRead n)
 unfolding numberRead
 read-value n h = ap (value binary32) (reads n h .is) ∙ number-value binary32-limits (read-wide n) (signOf n)
 
-pub read-magnitude : (n : ℕ) {x : Number} → patternRead n ≡ answer.Value x → magnitude binary32 x ≡ magnitudeRead n
+pub read-magnitude : (n : ℕ) {x : Number} → patternRead n ≡ gives x → magnitude binary32 x ≡ magnitudeRead n
 unfolding numberRead
 read-magnitude n h = ap (magnitude binary32) (reads n h .is) ∙ number-magnitude binary32-limits (read-wide n) (signOf n)
 
-pub read-sign : (n : ℕ) {x : Number} → patternRead n ≡ answer.Value x → x .negative ≡ not (eqb (magnitudeRead n) 0) && signOf n
+pub read-sign : (n : ℕ) {x : Number} → patternRead n ≡ gives x → x .negative ≡ not (eqb (magnitudeRead n) 0) && signOf n
 unfolding numberRead number
 read-sign n h = ap (λ (y : Number). y .negative) (reads n h .is)
 
 -- ---- what is written
-pub written-made : (x : Number) → member binary32 x ≡ true → patternWritten x ≡ pattern.Written (patternOf x)
-unfolding patternWritten all after
-written-made x h = rw (entry-made binary32 [] (x ∷ []) binary32-admitted refl (and-made h refl), after)
+pub written-made : (x : Number) → member binary32 x ≡ true → patternWritten x ≡ gives (patternOf x)
+unfolding patternWritten all
+written-made x h = checked-passed binary32 [] (x ∷ []) _ binary32-admitted refl (and-made h refl)
 
 -- a number that is not in format 2 is refused by 3
-pub written-refused : (x : Number) → member binary32 x ≡ false → patternWritten x ≡ pattern.Refused NumberNotInFormat
-unfolding patternWritten entry all after unless _and_
+pub written-refused : (x : Number) → member binary32 x ≡ false → patternWritten x ≡ refused 3
+unfolding patternWritten checked all unless _and_
 written-refused x h = rw (binary32-admitted, h, _and_)
 
 -- the pattern of a significand at a place
@@ -116,8 +106,8 @@ module _ (n : ℕ) (h : n < 2 ^ 32) (not-minus-zero : n ≢ 2 ^ 31) where
   pattern-back = ap patternOf (number-read n) ∙ pattern-at (signOf n) m k ∙ sign-back (signOf n) (eqb m 0) refl refl
 
   -- every finite pattern but that of minus zero comes back
-  pub read-written : {x : Number} → patternRead n ≡ answer.Value x → patternWritten x ≡ pattern.Written n
-  read-written {x} r = written-made x (read-member n r) ∙ ap pattern.Written (ap patternOf (reads n r .is) ∙ pattern-back)
+  pub read-written : {x : Number} → patternRead n ≡ gives x → patternWritten x ≡ gives n
+  read-written {x} r = written-made x (read-member n r) ∙ ap gives (ap patternOf (reads n r .is) ∙ pattern-back)
 
 -- ---- written and read
 -- the parts of a pattern that is put together
@@ -140,8 +130,8 @@ module _ {s : Bool} {E F n : ℕ} (p : Parts s E F n) where
   unfolding finite
   parts-finite h = rw (p .field, ne-eqb E 255 (λ e. omega arith))
 
-  parts-read : E < 255 → patternRead n ≡ answer.Value (number binary32 s (significandOf E F * 2 ^ (E - 1)))
-  parts-read h = read-made n (parts-finite h) ∙ ap answer.Value parts-number
+  parts-read : E < 255 → patternRead n ≡ gives (number binary32 s (significandOf E F * 2 ^ (E - 1)))
+  parts-read h = read-made n (parts-finite h) ∙ ap gives parts-number
 
 module _ (x : Number) (i : Member binary32 x) where
   -- a small number is at place 0
@@ -159,16 +149,16 @@ module _ (x : Number) (i : Member binary32 x) where
       (parts (x .negative) {E = suc (placeOf binary32 x)} {F = x .significand - 2 ^ 23} (omega (arith, member-highest binary32-limits i)) (omega (arith, i .significand-high)))
 
   parts-back : {E F : ℕ} → Parts (x .negative) E F (patternOf x) → E < 255 → significandOf E F * 2 ^ (E - 1) ≡ magnitude binary32 x
-      → patternRead (patternOf x) ≡ answer.Value x
+      → patternRead (patternOf x) ≡ gives x
   parts-back p h e =
       parts-read p h
-      ∙ ap answer.Value (ap (number binary32 (x .negative)) e ∙ number-of binary32-limits i (x .negative) ∙ own-sign binary32-limits i)
+      ∙ ap gives (ap (number binary32 (x .negative)) e ∙ number-of binary32-limits i (x .negative) ∙ own-sign binary32-limits i)
 
-  back : patternRead (patternOf x) ≡ answer.Value x
+  back : patternRead (patternOf x) ≡ gives x
   unfolding magnitude
   back = by (decLe (2 ^ 23) (x .significand))
     where
-      by : Dec (2 ^ 23 ≤ x .significand) → patternRead (patternOf x) ≡ answer.Value x
+      by : Dec (2 ^ 23 ≤ x .significand) → patternRead (patternOf x) ≡ gives x
       by (yes h) =
           let whole : 2 ^ 23 + (x .significand - 2 ^ 23) ≡ x .significand = omega arith in
           let place : suc (placeOf binary32 x) - 1 ≡ placeOf binary32 x = omega arith in
@@ -176,5 +166,14 @@ module _ (x : Number) (i : Member binary32 x) where
       by (no h) = parts-back (small-parts (omega arith)) (omega arith) (rw (flat (omega arith)))
 
 -- every number of format 2 comes back
-pub written-read : (x : Number) → member binary32 x ≡ true → patternRead (patternOf x) ≡ answer.Value x
+pub written-read : (x : Number) → member binary32 x ≡ true → patternRead (patternOf x) ≡ gives x
 written-read x h = back x (members x binary32-limits h)
+
+-- ---- zero: 80000000 reads as zero, and zero is written 00000000
+pub minus-zero-read : patternRead (2 ^ 31) ≡ patternRead 0
+unfolding patternRead finite fieldOf numberRead number magnitudeRead signOf fractionOf
+minus-zero-read = refl
+
+pub zero-written : patternWritten (numberRead 0) ≡ gives 0
+unfolding finite
+zero-written = read-written 0 (omega arith) (λ e. omega (arith, e)) (read-made 0 refl)

@@ -1,18 +1,12 @@
 -- Reading is that of lib.Ieee, the kit's own account of IEEE 754.
-use Prim.Native.Nat.{ℕ, zero, suc, _-_, _/_, _%_, _^_, _<_}
-use mathlib.Core.Path.{_≡_, refl, sym, ap, subst, _∙_}
-use mathlib.Core.Bool.{Bool, true, false, cond}
-use mathlib.Core.Logic.{_≢_}
-use native.Mathlib.Omega.{arith}
-use lib.Dec.{eqb}
+use Rattle.theory.proofs.Prelude.{ℕ, _<_, _^_, _-_, suc, zero, _%_, _/_, true, false, Bool, cond, _≢_, _∙_, ap, _≡_, sym, refl, subst, arith, eqb, ne-eqb, lt-leb}
 use lib.Ieee as ieee
 use lib.Ieee.{Float, nan, inf, odd, ofBits, ofFields}
 use lib.Ieee.Exact.{HasValue, odd-sign}
 use lib.Ieee.Scale as scale
-use borrow.Author.Tests.{ne-eqb, lt-leb}
 use Rattle.format.specs.Published.{binary32}
 use Rattle.number.specs.declared.Number.{Number}
-use Rattle.number.specs.declared.Answer.the-variants.{Value}
+use Rattle.format.specs.Given.{Given, gives, refused}
 use Rattle.number.specs.Numbers.{placeOf}
 use Rattle.number.proofs.Values.{written, place-there}
 use Rattle.binary32.specs.Patterns.{signOf, fieldOf, fractionOf, finite, magnitudeRead, patternRead}
@@ -72,7 +66,7 @@ float-at s zero k h = rw (h refl, place-there _ k)
 float-at s (suc m) k h = rw (ne-eqb (suc m) 0 (λ e. omega arith), place-there _ k)
 
 -- every finite pattern but that of minus zero is the float of the number that we read
-pub float-standard : (n : ℕ) {x : Number} → n < 2 ^ 32 → n ≢ 2 ^ 31 → patternRead n ≡ Value x → ofBits ieee.binary32 n ≡ floatOf x
+pub float-standard : (n : ℕ) {x : Number} → n < 2 ^ 32 → n ≢ 2 ^ 31 → patternRead n ≡ gives x → ofBits ieee.binary32 n ≡ floatOf x
 float-standard n {x} h not-minus-zero r =
     bits-standard n (reads n r .finite)
     ∙ sym (float-at (signOf n) (significandOf (fieldOf n) (fractionOf n)) (fieldOf n - 1) plus)

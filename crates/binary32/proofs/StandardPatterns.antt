@@ -1,13 +1,6 @@
 -- The operations of lib.Ieee on finite patterns, written as lib.Ieee writes them, are our nearest sum, difference, product and
 -- quotient, written as we write them. An infinity there is refusal 5 here, and minus zero is written as zero.
-use Prim.Native.Nat.{ℕ, _*_, _^_, _≤_, _<_}
-use mathlib.Core.Path.{_≡_, refl, sym, ap, _∙_}
-use mathlib.Core.Bool.{true, false, cond, xor}
-use native.Mathlib.Decide.{ℕ-discrete}
-use native.Mathlib.Omega.{arith}
-use lib.Dec.{T, eqb}
-use lib.IntN.{_+ℤ_, _-ℤ_}
-use borrow.Author.Tests.{eq-eqb, ne-eqb}
+use Rattle.theory.proofs.Prelude.{ℕ, _≤_, _<_, _^_, _*_, true, false, cond, xor, _∙_, ap, _≡_, sym, refl, ℕ-discrete, arith, eqb, T, _+ℤ_, _-ℤ_, ne-eqb, eq-eqb}
 use lib.Ieee as ieee
 use lib.Ieee.{Float, nan, inf, fin, add, sub, mul, div, fits, ofBits, toBits}
 use lib.Ieee.Fits.{add-fits, sub-fits, mul-fits, div-fits}
@@ -16,11 +9,9 @@ use lib.Ieee.Scale as scale
 use Rattle.format.specs.declared.Refusal.the-variants.{TooLarge, NotFinite}
 use Rattle.format.specs.Published.{binary32}
 use Rattle.number.specs.declared.Number.{Number}
-use Rattle.number.specs.declared.Answer.the-variants as answer
+use Rattle.format.specs.Given.{Given, gives, refused}
 use Rattle.number.specs.Numbers.{magnitude, value}
 use Rattle.number.proofs.Values.{number-same}
-use Rattle.binary32.specs.declared.Pattern.{Pattern}
-use Rattle.binary32.specs.declared.Pattern.the-variants.{Written, Refused}
 use Rattle.binary32.specs.Patterns.{signOf, finite, magnitudeRead, numberRead, patternRead, patternOf, answerWritten}
 use Rattle.binary32.proofs.RoundTrips.{read-made, pattern-back}
 use Rattle.binary32.proofs.Standard.{value-standard, finite-standard}
@@ -33,10 +24,10 @@ abbrev pub plusZero : ℕ → ℕ
 plusZero n = cond (eqb n (2 ^ 31)) 0 n
 
 -- a float's pattern in lib.Ieee; an infinity is a result too large
-unfoldable pub patterned : Float → Pattern
-patterned nan = Refused NotFinite
-patterned (inf s) = Refused TooLarge
-patterned (fin s m e) = Written (plusZero (toBits ieee.binary32 (fin s m e)))
+unfoldable pub patterned : Float → Given ℕ
+patterned nan = refused 9
+patterned (inf s) = refused 5
+patterned (fin s m e) = gives (plusZero (toBits ieee.binary32 (fin s m e)))
 
 -- a finite pattern's float stands for what we read
 pub answered-read : (n : ℕ) → finite n ≡ true → answered (ofBits ieee.binary32 n) ≡ patternRead n
@@ -56,12 +47,12 @@ plus-zero-back n h = by (ℕ-discrete n (2 ^ 31))
     by (no k) = pattern-back n h k ∙ rw (ne-eqb n (2 ^ 31) k)
 
 -- a float that binary32 holds is written as the number that it stands for
-finite-written : (x : Float) → T (fits ieee.binary32 x) → scale.finite x ≡ true → Written (plusZero (toBits ieee.binary32 x)) ≡ answerWritten (answered x)
+finite-written : (x : Float) → T (fits ieee.binary32 x) → scale.finite x ≡ true → gives (plusZero (toBits ieee.binary32 x)) ≡ answerWritten (answered x)
 finite-written x h f =
     let n = toBits ieee.binary32 x in
     let back : ofBits ieee.binary32 n ≡ x = ofBits-toBits ieee.binary32 x h in
     let ends : finite n ≡ true = sym (finite-standard n) ∙ ap scale.finite back ∙ f in
-    ap Written (sym (plus-zero-back n (toBits-lt ieee.binary32 x h)))
+    ap gives (sym (plus-zero-back n (toBits-lt ieee.binary32 x h)))
     ∙ ap answerWritten (sym (read-made n ends) ∙ sym (answered-read n ends) ∙ ap answered back)
 
 pub patterned-written : (x : Float) → T (fits ieee.binary32 x) → patterned x ≡ answerWritten (answered x)
@@ -71,7 +62,7 @@ patterned-written (inf s) h = refl
 patterned-written (fin s m e) h = finite-written (fin s m e) h refl
 
 -- ---- the four operations
-module _ (a b : ℕ) {x y : Number} (r : patternRead a ≡ answer.Value x) (q : patternRead b ≡ answer.Value y) where
+module _ (a b : ℕ) {x y : Number} (r : patternRead a ≡ gives x) (q : patternRead b ≡ gives y) where
   abbrev f : Float
   f = ofBits ieee.binary32 a
 

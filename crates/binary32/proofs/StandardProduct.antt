@@ -1,11 +1,6 @@
 -- The product and the quotient of finite patterns to nearest, ties to even, are those of lib.Ieee.
-use Prim.Native.Nat.{ℕ, zero, suc, _*_, _^_, _≤_}
-use mathlib.Core.Path.{_≡_, refl, sym, ap, ap₂, subst, _∙_}
-use mathlib.Core.Bool.{Bool, true, false, not, _&&_, cond, xor}
-use native.Mathlib.Nat.{mul-pos, mul-le-mul-right, zero-mul, mul-zero}
-use native.Mathlib.Omega.{arith}
-use lib.Dec.{eqb}
-use borrow.Author.Tests.{eqb-true, ne-eqb}
+use Rattle.theory.proofs.Prelude.{ℕ, _≤_, _^_, _*_, suc, zero, true, false, Bool, cond, not, xor, _&&_, _∙_, ap, _≡_, sym, refl, ap₂, subst, mul-le-mul-right, mul-pos, zero-mul, arith, eqb, ne-eqb, eqb-true}
+use native.Mathlib.Nat.{mul-zero}
 use lib.Ieee as ieee
 use lib.Ieee.{Float, nan, inf, fin, up, down, unlike, mul, div, ofBits}
 use lib.Ieee.Exact.{HasValue}
@@ -15,7 +10,7 @@ use Rattle.theory.specs.Signed.{signed}
 use Rattle.theory.proofs.Powers.{pow-pos}
 use Rattle.format.specs.Published.{binary32}
 use Rattle.number.specs.declared.Number.{Number}
-use Rattle.number.specs.declared.Answer.the-variants.{Value}
+use Rattle.format.specs.Given.{Given, gives, refused}
 use Rattle.number.specs.Numbers.{magnitude}
 use Rattle.binary32.specs.Patterns.{signOf, magnitudeRead, patternRead}
 use Rattle.binary32.proofs.RoundTrips.{reads, read-magnitude, read-sign}
@@ -108,7 +103,7 @@ same-sign s t A B N a b = by (eqb A 0) (eqb B 0) refl refl
     by false true e f = none (unlike s t) (xor (not false && s) (not true && t)) (b (eqb-true B 0 f))
     by false false e f = refl
 
-module _ (a b : ℕ) {x y : Number} (r : patternRead a ≡ Value x) (q : patternRead b ≡ Value y) where
+module _ (a b : ℕ) {x y : Number} (r : patternRead a ≡ gives x) (q : patternRead b ≡ gives y) where
   -- the signs as they are read
   signs-read : (N : ℕ) {D : ℕ} → 1 ≤ D → (magnitudeRead a ≡ 0 → N ≡ 0) → (magnitudeRead b ≡ 0 → N ≡ 0)
       → nearestOf (unlike (signOf a) (signOf b)) N D ≡ nearestOf (xor (x .negative) (y .negative)) N D

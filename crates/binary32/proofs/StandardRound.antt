@@ -1,16 +1,10 @@
 -- The rounding of lib.Ieee, the kit's own account of IEEE 754, is the theory's to nearest with ties to even in format 2: an infinity
 -- where the rounded magnitude exceeds the greatest number, and otherwise the float that has its value.
-use Prim.Native.Nat.{ℕ, suc, _+_, _*_, _-_, _/_, _%_, _^_, _≤_, _<_, compare, Ordering, Ordering·lt, Ordering·eq, Ordering·gt}
-use mathlib.Core.Path.{_≡_, refl, sym, ap, ap₂, subst, _∙_}
-use mathlib.Core.Bool.{Bool, true, false, not, cond}
-use mathlib.Core.Logic.{_≢_}
-use native.Mathlib.Nat.{le-antisymm, le-of-suc-le-suc, lt-of-le-of-lt, lt-of-not-le, not-le-of-lt, mul-div-cancel, mul-pos}
-use native.Mathlib.Decide.{ℕ-discrete}
-use native.Mathlib.Omega.{arith}
-use lib.Dec.{T, isLe, isEq, eqb, leb, leb→le, nleb→lt, eqb→eq}
-use lib.IntN.{ℤ, natAbs}
+use Rattle.theory.proofs.Prelude.{ℕ, _≤_, _<_, _+_, _^_, _*_, _-_, suc, _%_, _/_, true, false, Bool, cond, not, _≢_, _∙_, ap, _≡_, sym, refl, ap₂, subst, ℕ-discrete, mul-pos, le-antisymm, le-of-suc-le-suc, lt-of-not-le, mul-div-cancel, arith, eqb, leb, T, ℤ, natAbs, ne-eqb, eq-eqb, leb-true, leb-false, le-ltb, ltb-true}
+use Prim.Native.Nat.{compare, Ordering, Ordering·lt, Ordering·eq, Ordering·gt}
+use native.Mathlib.Nat.{lt-of-le-of-lt, not-le-of-lt}
+use lib.Dec.{isLe, isEq, leb→le, nleb→lt, eqb→eq}
 use mir.Facts.{eqb-no}
-use borrow.Author.Tests.{ltb-true, leb-true, leb-false, eq-eqb, ne-eqb, le-ltb}
 use lib.Ieee as ieee
 use lib.Ieee.{Float, nan, inf, fin, up, down, size, nearest, odd, units}
 use lib.Ieee.Digits.{size-lt, size-le}
@@ -20,7 +14,7 @@ use lib.Ieee.Nearest.{closest, closest-same, div-same}
 use Rattle.theory.specs.Place.{Positional, place, step}
 use Rattle.theory.specs.Tests.{unless}
 use Rattle.theory.specs.Wide.{Wide}
-use Rattle.theory.specs.Round.{chosen, takes-upper, round}
+use Rattle.theory.specs.Round.{chosen, takesUpper, round}
 use Rattle.theory.specs.declared.Direction.the-variants.{NearestEven}
 use Rattle.theory.specs.declared.Location.{Location}
 use Rattle.theory.specs.Signed.{signed, roundZ}
@@ -36,27 +30,26 @@ use Rattle.format.specs.declared.Refusal.the-variants.{TooLarge, NotFinite}
 use Rattle.format.specs.Published.{binary32}
 use Rattle.format.proofs.Formats.{positional}
 use Rattle.number.specs.declared.Number.{Number}
-use Rattle.number.specs.declared.Answer.{Answer}
-use Rattle.number.specs.declared.Answer.the-variants.{Value, Refused}
+use Rattle.format.specs.Given.{Given, gives, refused}
 use Rattle.number.specs.Numbers.{number, greatest, delivered}
 use Rattle.number.proofs.Values.{canonical-within, number-same}
 use Rattle.binary32.proofs.Fields.{binary32-limits}
 
 -- the answer that a float of lib.Ieee stands for: zero is plus, and an infinity is a result too large
-unfoldable pub answered : Float → Answer
-answered nan = Refused NotFinite
-answered (inf s) = Refused TooLarge
-answered (fin s m e) = Value (number binary32 s (m * up e * 2 ^ 149 / down e))
+unfoldable pub answered : Float → Given Number
+answered nan = refused 9
+answered (inf s) = refused 5
+answered (fin s m e) = gives (number binary32 s (m * up e * 2 ^ 149 / down e))
 
 -- ± N / D units of 2 ^ -149, rounded to nearest with ties to even, and the answer that it makes
 abbrev pub nearestRound : (negative : Bool) (N D : ℕ) → ℕ
 nearestRound negative N D = round 2 24 NearestEven negative N D
 
-abbrev pub nearestOf : (negative : Bool) (N D : ℕ) → Answer
+abbrev pub nearestOf : (negative : Bool) (N D : ℕ) → Given Number
 nearestOf negative N D = delivered binary32 negative (nearestRound negative N D)
 
 -- a finite float's answer, by its value
-pub answered-value : (x : Float) (s : Bool) (n : ℕ) → HasValue x s n (2 ^ 149) → answered x ≡ Value (number binary32 s n)
+pub answered-value : (x : Float) (s : Bool) (n : ℕ) → HasValue x s n (2 ^ 149) → answered x ≡ gives (number binary32 s n)
 unfolding answered
 answered-value nan s n h = absurd h
 answered-value (inf t) s n h = absurd h
@@ -88,7 +81,7 @@ compared a b = by (compare a b) (leb→le a b) (nleb→lt a b) (eqb→eq a b) (�
 -- n steps and a remainder r of a step of u
 module _ (negative : Bool) (n r u s : ℕ) (pos : 1 ≤ u) where
   abbrev choice : Location → ℕ
-  choice c = cond (takes-upper NearestEven negative (eqb (n % 2) 1) c) (suc n * s) (n * s)
+  choice c = cond (takesUpper NearestEven negative (eqb (n % 2) 1) c) (suc n * s) (n * s)
 
   tie : (n + n % 2) * s ≡ cond (eqb (n % 2) 1) (suc n * s) (n * s)
   tie = by (ℕ-discrete (n % 2) 1)
@@ -98,7 +91,7 @@ module _ (negative : Bool) (n r u s : ℕ) (pos : 1 ≤ u) where
       by (no h) = let e : n % 2 ≡ 0 = omega arith in rw (ne-eqb (n % 2) 1 h, e) (omega arith)
 
   steps-nearest : {o : Ordering} {c : Location} → Compared (r * 2) u o → Located r u 0 1 c → nearest n o * s ≡ choice c
-  unfolding takes-upper chosen
+  unfolding takesUpper chosen
   steps-nearest (less h) (at-lower e) = refl
   steps-nearest (less h) (under e m) = refl
   steps-nearest (less h) (middle e m) = absurd (omega arith)
@@ -190,16 +183,16 @@ module _ (s : Bool) {num den N D : ℕ} (e : Exact num den N D) where
       by : (t : Bool) → leb (nearestRound s N D) (greatest binary32) ≡ t → answered (ieee.round ieee.binary32 s num den) ≡ nearestOf s N D
       by true l =
           answered-value (ieee.round ieee.binary32 s num den) s (nearestRound s N D) (round-value (leb-true (nearestRound s N D) (greatest binary32) l))
-          ∙ sym (unless-passed (Refused TooLarge) (Value (number binary32 s (nearestRound s N D))) l)
+          ∙ sym (unless-passed (refused 5) (gives (number binary32 s (nearestRound s N D))) l)
       by false l =
           ap answered (round-infinite (leb-false (nearestRound s N D) (greatest binary32) l))
-          ∙ sym (unless-failed (Refused TooLarge) (Value (number binary32 s (nearestRound s N D))) l)
+          ∙ sym (unless-failed (refused 5) (gives (number binary32 s (nearestRound s N D))) l)
 
 -- ---- the answer depends on the exact value alone, and not on a sign of zero
 delivered-same : (s t : Bool) (m n : ℕ) → signed s m ≡ signed t n → delivered binary32 s m ≡ delivered binary32 t n
 unfolding delivered
 delivered-same s t m n e =
-    ap₂ (λ (r : ℕ) (x : Number). unless (leb r (greatest binary32)) (Refused TooLarge) (Value x))
+    ap₂ (λ (r : ℕ) (x : Number). unless (leb r (greatest binary32)) (refused 5) (gives x))
     (sym (size-signed s m) ∙ ap natAbs e ∙ size-signed t n) (number-same binary32 s t m n e)
 
 pub nearest-same : (s t : Bool) (m n : ℕ) {D : ℕ} → 1 ≤ D → signed s m ≡ signed t n → nearestOf s m D ≡ nearestOf t n D

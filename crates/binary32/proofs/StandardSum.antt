@@ -1,23 +1,14 @@
 -- The sum and the difference of finite patterns to nearest, ties to even, are those of lib.Ieee.
-use Prim.Native.Nat.{ℕ, _+_, _*_, _-_, _^_, _≤_}
-use mathlib.Core.Path.{_≡_, refl, sym, ap, ap₂, _∙_}
-use mathlib.Core.Bool.{Bool, true, false, not, _&&_, cond}
-use native.Mathlib.Nat.{mul-sub, mul-comm, mul-le-mul-right, mul-pos}
-use native.Mathlib.Decide.{decLe}
-use native.Mathlib.Omega.{arith}
-use lib.Dec.{ltb}
-use lib.IntN.{ℤ, natAbs, negℤ, _+ℤ_, _-ℤ_, +ℤ-comm}
-use borrow.Author.Tests.{ltb-true, ltb-false}
+use Rattle.theory.proofs.Prelude.{ℕ, _≤_, _+_, _^_, _*_, _-_, true, false, Bool, cond, not, _&&_, _∙_, ap, _≡_, sym, refl, ap₂, decLe, mul-le-mul-right, mul-pos, mul-comm, mul-sub, arith, ltb, ℤ, _+ℤ_, natAbs, _-ℤ_, negℤ, +ℤ-comm, ltb-true, ltb-false}
 use lib.Ieee as ieee
 use lib.Ieee.{Float, nan, inf, fin, up, down, sum, add, sub, neg, ofBits}
 use lib.Ieee.Exact.{HasValue}
 use lib.Ieee.Fits.{down-pos}
-use Rattle.theory.specs.Signed.{signed, is-negative}
+use Rattle.theory.specs.Signed.{signed, isNegative}
 use Rattle.theory.proofs.Integers.{own-sign, add-agree, add-differ, negate-signed}
 use Rattle.format.specs.Published.{binary32}
 use Rattle.number.specs.declared.Number.{Number}
-use Rattle.number.specs.declared.Answer.{Answer}
-use Rattle.number.specs.declared.Answer.the-variants.{Value}
+use Rattle.format.specs.Given.{Given, gives, refused}
 use Rattle.number.specs.Numbers.{value}
 use Rattle.binary32.specs.Patterns.{signOf, magnitudeRead, patternRead}
 use Rattle.binary32.proofs.RoundTrips.{reads, read-value}
@@ -25,11 +16,11 @@ use Rattle.binary32.proofs.Standard.{value-standard}
 use Rattle.binary32.proofs.StandardRound.{answered, nearestOf, nearest-same, Counts, round-standard}
 
 -- v units of 2 ^ -149, rounded to nearest with ties to even and delivered
-abbrev pub nearestZ : ℤ → Answer
-nearestZ v = nearestOf (is-negative v) (natAbs v) 1
+abbrev pub nearestZ : ℤ → Given Number
+nearestZ v = nearestOf (isNegative v) (natAbs v) 1
 
 nearest-signed : (s : Bool) (n : ℕ) (v : ℤ) → signed s n ≡ v → nearestOf s n 1 ≡ nearestZ v
-nearest-signed s n v e = nearest-same s (is-negative v) n (natAbs v) (omega arith) (e ∙ sym (own-sign v))
+nearest-signed s n v e = nearest-same s (isNegative v) n (natAbs v) (omega arith) (e ∙ sym (own-sign v))
 
 -- ---- a / c and b / c are A and B units of 1 / w
 record Pair (w a b c A B : ℕ) : Type 0 where
@@ -130,7 +121,7 @@ add-standard (fin r m e) (fin q n d) s t A B h k =
     ap₂ (λ (i j : Bool). answered (sum ieee.binary32 i (m * up e * down d) j (n * up d * down e) (down e * down d))) (h .0) (k .0)
     ∙ sum-standard (paired (record { divisor = down-pos e; is = h .1 }) (record { divisor = down-pos d; is = k .1 })) s t
 
-module _ (a b : ℕ) {x y : Number} (r : patternRead a ≡ Value x) (q : patternRead b ≡ Value y) where
+module _ (a b : ℕ) {x y : Number} (r : patternRead a ≡ gives x) (q : patternRead b ≡ gives y) where
   -- the sum is that of lib.Ieee
   pub ieee-sum : answered (add ieee.binary32 (ofBits ieee.binary32 a) (ofBits ieee.binary32 b)) ≡ nearestZ (value binary32 x +ℤ value binary32 y)
   ieee-sum =

@@ -6,15 +6,14 @@ use lib.Dec.{eqb, leb}
 use lib.IntN.{ℤ}
 use Rattle.theory.specs.Tests.{unless}
 use Rattle.theory.specs.Signed.{signed}
-use Rattle.format.specs.declared.Refusal.the-variants.{NotFinite}
+use Rattle.format.specs.Given.{Given, gives, refused, _then_}
+use Rattle.format.specs.Refusals.{refusalNumber}
 use Rattle.format.specs.Published.{binary32}
 use Rattle.number.specs.declared.Number.{Number}
-use Rattle.number.specs.declared.Answer.{Answer}
-use Rattle.number.specs.declared.Answer.the-variants as answer
 use Rattle.number.specs.Numbers.{placeOf, number}
-use Rattle.number.specs.Entry.{entry, after}
-use Rattle.binary32.specs.declared.Pattern.{Pattern}
-use Rattle.binary32.specs.declared.Pattern.the-variants as pattern
+use Rattle.number.specs.Checks.{checked}
+use Rattle.binary32.specs.declared.PatternAnswer.{PatternAnswer}
+use Rattle.binary32.specs.declared.PatternAnswer.the-variants as pattern
 
 -- ---- the parts of a pattern of 32 bits
 -- the sign bit, the highest
@@ -53,8 +52,8 @@ unfoldable pub numberRead : ℕ → Number
 numberRead n = number binary32 (signOf n) (magnitudeRead n)
 
 -- the answer of read_pattern
-unfoldable pub patternRead : ℕ → Answer
-patternRead n = unless (finite n) (answer.Refused NotFinite) (answer.Value (numberRead n))
+unfoldable pub patternRead : ℕ → Given Number
+patternRead n = unless (finite n) (refused 9) (gives (numberRead n))
 
 -- ---- writing
 -- sign, place and significand; the leading digit of a normal number adds one to the field
@@ -62,13 +61,17 @@ unfoldable pub patternOf : Number → ℕ
 patternOf x = cond (x .negative) (2 ^ 31) 0 + placeOf binary32 x * 2 ^ 23 + x .significand
 
 -- the answer of write_pattern
-unfoldable pub patternWritten : Number → Pattern
-patternWritten x = after (entry binary32 [] (x ∷ [])) pattern.Refused (pattern.Written (patternOf x))
+unfoldable pub patternWritten : Number → Given ℕ
+patternWritten x = checked binary32 [] (x ∷ []) (gives (patternOf x))
 
--- an answer with its number written
-abbrev pub answerWritten : Answer → Pattern
-answerWritten (answer.Value x) = pattern.Written (patternOf x)
-answerWritten (answer.Refused why) = pattern.Refused why
+-- what is given, with its number written
+abbrev pub answerWritten : Given Number → Given ℕ
+answerWritten g = g then λ x. gives (patternOf x)
+
+-- the code's patterns in the papers' terms
+abbrev pub patternGiven : PatternAnswer → Given ℕ
+patternGiven (pattern.Written n) = gives n
+patternGiven (pattern.Refused why) = refused (refusalNumber why)
 
 -- ---- order
 -- a whole number that orders the patterns by their values: 2 ^ 31 more than the pattern as a sign and a number of 31 bits

@@ -8,7 +8,7 @@ pub mod prepared;
 use format::Refusal;
 
 // A pattern, or why there is none.
-pub enum Pattern {
+pub enum PatternAnswer {
     Written(u32),
     Refused(Refusal),
 }

@@ -1,21 +1,22 @@
 // A pattern read as a number of published format 2, and a number written as a pattern.
-use crate::Pattern;
+use crate::PatternAnswer;
 use crate::prepared::prepared_binary32;
 use format::Preparation;
 use format::Refusal;
 use format::Significand;
 use format::admission::distance;
-use number::Answer;
 use number::Number;
+use number::NumberAnswer;
+use number::checks::with_number;
 use number::delivery::number_at;
-use number::entry::with_number;
 ghost use mathlib.Core.Path.{_≡_};
 ghost use mathlib.Core.Bool.{true, cond};
 ghost use Prim.Native.Nat.{_+_, _-_, _<_, _^_};
 ghost use lib.Dec.{eqb};
 ghost use Rattle.format.specs.Published.{binary32};
+ghost use Rattle.number.specs.Answers.{numberGiven};
 ghost use Rattle.number.specs.Numbers.{member};
-ghost use Rattle.binary32.specs.Patterns.{fieldOf, finite, numberRead, patternRead, patternOf, patternWritten};
+ghost use Rattle.binary32.specs.Patterns.{fieldOf, finite, numberRead, patternRead, patternOf, patternWritten, patternGiven};
 
 // Eight bits of the exponent.
 pub fn field_of(pattern: u32) -> u32
@@ -52,13 +53,13 @@ pub fn read_finite(pattern: u32) -> Number
 }
 
 // The number that a pattern stands for. Refuses 9.
-pub fn read_pattern(pattern: u32) -> Answer
-    ensures { λ r. ⌜ r ≡ patternRead pattern ⌝ }
+pub fn read_pattern(pattern: u32) -> NumberAnswer
+    ensures { λ r. ⌜ numberGiven r ≡ patternRead pattern ⌝ }
 {
     if field_of(pattern) == 255 {
-        return Answer::Refused(Refusal::NotFinite);
+        return NumberAnswer::Refused(Refusal::NotFinite);
     }
-    Answer::Value(read_finite(pattern))
+    NumberAnswer::Value(read_finite(pattern))
 }
 
 // The sign bit, the highest.
@@ -79,11 +80,11 @@ pub fn pattern_of(x: Number) -> u32
 }
 
 // The pattern of a number. Refuses 3.
-pub fn write_pattern(x: Number) -> Pattern
-    ensures { λ r. ⌜ r ≡ patternWritten x ⌝ }
+pub fn write_pattern(x: Number) -> PatternAnswer
+    ensures { λ r. ⌜ patternGiven r ≡ patternWritten x ⌝ }
 {
     match with_number(Preparation::Ready(prepared_binary32()), x) {
-        Preparation::Refused(why) => Pattern::Refused(why),
-        Preparation::Ready(_) => Pattern::Written(pattern_of(x)),
+        Preparation::Refused(why) => PatternAnswer::Refused(why),
+        Preparation::Ready(_) => PatternAnswer::Written(pattern_of(x)),
     }
 }

@@ -1,6 +1,6 @@
 // The places and the neighbours of a finite pattern, straight from the pattern: patterns of one sign are in the order of their
 // magnitudes, so that neighbours differ by one.
-use crate::Pattern;
+use crate::PatternAnswer;
 use crate::prepared::prepared_binary32;
 use format::Refusal;
 use units::powers_of_base::leading_power;
@@ -9,90 +9,90 @@ ghost use mathlib.Core.Bool.{true};
 ghost use Rattle.format.specs.Published.{binary32};
 ghost use Rattle.units.specs.Places.{firstPlace, lastPlace};
 ghost use Rattle.units.specs.Neighbours.{predecessorOf, successorOf};
-ghost use Rattle.binary32.specs.Patterns.{finite, numberRead, answerWritten};
-ghost use Rattle.binary32.specs.Places.{placesOf};
+ghost use Rattle.binary32.specs.Patterns.{finite, numberRead, answerWritten, patternGiven};
+ghost use Rattle.binary32.specs.Places.{placesOf, placesGiven};
 
 // ufp, ulp, predecessor and successor of a number, as patterns.
 pub struct Places {
-    pub ufp: Pattern,
-    pub ulp: Pattern,
-    pub predecessor: Pattern,
-    pub successor: Pattern,
+    pub ufp: PatternAnswer,
+    pub ulp: PatternAnswer,
+    pub predecessor: PatternAnswer,
+    pub successor: PatternAnswer,
 }
 
 // ufp: the power that the field stands for, and for a small number that of its leading digit.
-fn ufp(pattern: u32) -> Pattern
+fn ufp(pattern: u32) -> PatternAnswer
     requires { ⌜ finite pattern ≡ true ⌝ }
-    ensures { λ r. ⌜ r ≡ answerWritten (firstPlace binary32 (numberRead pattern)) ⌝ }
+    ensures { λ r. ⌜ patternGiven r ≡ answerWritten (firstPlace binary32 (numberRead pattern)) ⌝ }
 {
     let size = pattern % 2147483648;
     if size < 8388608 {
         let prepared = prepared_binary32();
-        return Pattern::Written(leading_power(prepared.scale, size));
+        return PatternAnswer::Written(leading_power(prepared.scale, size));
     }
-    Pattern::Written(size / 8388608 * 8388608)
+    PatternAnswer::Written(size / 8388608 * 8388608)
 }
 
 // ulp: 2^k for the place k of the field, which is a small number up to k = 22.
-fn ulp(pattern: u32) -> Pattern
+fn ulp(pattern: u32) -> PatternAnswer
     requires { ⌜ finite pattern ≡ true ⌝ }
-    ensures { λ r. ⌜ r ≡ answerWritten (lastPlace binary32 (numberRead pattern)) ⌝ }
+    ensures { λ r. ⌜ patternGiven r ≡ answerWritten (lastPlace binary32 (numberRead pattern)) ⌝ }
 {
     let size = pattern % 2147483648;
     let field = size / 8388608;
     if size == 0 {
-        return Pattern::Written(0);
+        return PatternAnswer::Written(0);
     }
     if field < 2 {
-        return Pattern::Written(1);
+        return PatternAnswer::Written(1);
     }
     if field < 24 {
-        return Pattern::Written(format::powers::power(2, field - 1));
+        return PatternAnswer::Written(format::powers::power(2, field - 1));
     }
-    Pattern::Written((field - 23) * 8388608)
+    PatternAnswer::Written((field - 23) * 8388608)
 }
 
 // The predecessor: one more in magnitude from zero down, one less above it.
-fn predecessor(pattern: u32) -> Pattern
+fn predecessor(pattern: u32) -> PatternAnswer
     requires { ⌜ finite pattern ≡ true ⌝ }
-    ensures { λ r. ⌜ r ≡ answerWritten (predecessorOf binary32 (numberRead pattern)) ⌝ }
+    ensures { λ r. ⌜ patternGiven r ≡ answerWritten (predecessorOf binary32 (numberRead pattern)) ⌝ }
 {
     if pattern == 4286578687 {
-        return Pattern::Refused(Refusal::TooLarge);
+        return PatternAnswer::Refused(Refusal::TooLarge);
     }
     if 2147483648 <= pattern {
-        return Pattern::Written(pattern + 1);
+        return PatternAnswer::Written(pattern + 1);
     }
     if pattern == 0 {
-        return Pattern::Written(2147483649);
+        return PatternAnswer::Written(2147483649);
     }
-    Pattern::Written(pattern - 1)
+    PatternAnswer::Written(pattern - 1)
 }
 
 // The successor. Zero is 0, also above 80000001 (hexadecimal).
-fn successor(pattern: u32) -> Pattern
+fn successor(pattern: u32) -> PatternAnswer
     requires { ⌜ finite pattern ≡ true ⌝ }
-    ensures { λ r. ⌜ r ≡ answerWritten (successorOf binary32 (numberRead pattern)) ⌝ }
+    ensures { λ r. ⌜ patternGiven r ≡ answerWritten (successorOf binary32 (numberRead pattern)) ⌝ }
 {
     if pattern == 2139095039 {
-        return Pattern::Refused(Refusal::TooLarge);
+        return PatternAnswer::Refused(Refusal::TooLarge);
     }
     if pattern < 2147483648 {
-        return Pattern::Written(pattern + 1);
+        return PatternAnswer::Written(pattern + 1);
     }
     if pattern == 2147483648 {
-        return Pattern::Written(1);
+        return PatternAnswer::Written(1);
     }
     if pattern == 2147483649 {
-        return Pattern::Written(0);
+        return PatternAnswer::Written(0);
     }
-    Pattern::Written(pattern - 1)
+    PatternAnswer::Written(pattern - 1)
 }
 
 // Both places and both neighbours.
 pub fn places_of(pattern: u32) -> Places
     requires { ⌜ finite pattern ≡ true ⌝ }
-    ensures { λ r. ⌜ r ≡ placesOf (numberRead pattern) ⌝ }
+    ensures { λ r. ⌜ placesGiven r ≡ placesOf (numberRead pattern) ⌝ }
 {
     Places {
         ufp: ufp(pattern),

@@ -1,13 +1,8 @@
 -- Two accounts of IEEE 754 agree: for finite patterns the pattern calls in direction 0 answer what lib.Ieee's operations on the
 -- floats of those patterns give, written as a pattern; refusal 5 is given exactly where lib.Ieee gives an infinity.
-use Prim.Native.Nat.{ℕ, _*_, _^_, _≤_}
-use mathlib.Core.Path.{_≡_, refl, sym, ap, _∙_}
-use mathlib.Core.Bool.{true, xor}
-use native.Mathlib.Nat.{mul-one}
-use native.Mathlib.Omega.{arith}
+use Rattle.theory.proofs.Prelude.{ℕ, _≤_, _^_, _*_, true, xor, _∙_, ap, _≡_, sym, refl, mul-one, arith, ne-eqb}
 use lib.Ieee.{ofBits, add, sub, mul, div}
 use lib.Ieee as ieee
-use borrow.Author.Tests.{ne-eqb}
 use Rattle.theory.specs.declared.Direction.the-variants.{NearestEven}
 use Rattle.theory.proofs.Tests.{and-made, unless-passed}
 use Rattle.format.specs.Directions.{isDirection, direction}

@@ -1,15 +1,7 @@
 -- Sums of numbers of the wide format with 24 binary digits, rounded down: a sum that is rounded down is at least a number of the format
 -- exactly where the sum is.
-use Prim.Native.Nat.{ℕ, zero, suc, _+_, _*_, _^_, _≤_, _<_}
-use mathlib.Core.Path.{_≡_, refl, sym, ap, _∙_}
-use mathlib.Core.Bool.{Bool, true, false, not, _&&_}
-use mathlib.Core.Logic.{inl, inr, ⊎-elim}
-use native.Mathlib.Numerals.{add-one}
-use native.Mathlib.Omega.{arith}
-use native.Mathlib.Nat.{mul-pos, pow-suc}
-use lib.Dec.{eqb}
-use lib.IntN.{ℤ, pos, negℤ, _+ℤ_}
-use lib.Signed.{leZ, ltZ}
+use Rattle.theory.proofs.Prelude.{ℕ, _≤_, _<_, _+_, _^_, _*_, suc, zero, true, false, Bool, not, ⊎-elim, inl, inr, _∙_, ap, _≡_, sym, refl, mul-pos, zero-mul, pow-suc, add-one, arith, eqb, ℤ, pos, _+ℤ_, negℤ, ltZ, leZ, ne-eqb}
+use mathlib.Core.Bool.{_||_}
 use Rattle.theory.specs.Place.{Positional}
 use Rattle.theory.specs.declared.Direction.{Direction}
 use Rattle.theory.specs.declared.Direction.the-variants.{Downward}
@@ -19,17 +11,17 @@ use Rattle.theory.proofs.Wide.{wide-zero}
 use Rattle.theory.proofs.Canonical.{canonical-wide}
 use Rattle.theory.proofs.Integers.{above, below, sum-parts, parts-eq, neg-above, neg-below, negate-signed, size-signed, le-parts, scale-le-parts, parts-scale-le}
 use Rattle.theory.proofs.Signed.{downward-le, downward-greatest}
-use Rattle.theory.proofs.Tests.{never}
+use Rattle.theory.proofs.Tests.{refuted}
 use Rattle.format.specs.declared.Scale.{Scale}
 use Rattle.format.specs.declared.Prepared.{Prepared}
 use Rattle.format.specs.Formats.{Scaled, scaleOf, preparedOf}
 use Rattle.format.specs.Published.{binary32}
-use Rattle.format.proofs.Signed.{Upto, Under, le-true, le-false, make-lt, make-ge}
+use Rattle.format.proofs.Signed.{Upto, le-true, le-false, make-le, make-lt, make-ge}
 use Rattle.format.proofs.Formats.{positional, scaled}
-use Rattle.wide.specs.declared.Wide.{Wide}
-use Rattle.wide.specs.Operand.{Operand, sizeOf, valueOf}
-use Rattle.wide.specs.Sum.{summed}
-use Rattle.wide.proofs.Results.{summed-result, summed-value, summed-place}
+use Rattle.rounding.specs.declared.Wide.{Wide}
+use Rattle.wide.specs.Operand.{Bounded, sizeOf, valueOf}
+use Rattle.wide.specs.Sum.{RoundsZ}
+use Rattle.wide.proofs.Results.{sum-value, sum-place}
 use Rattle.number.specs.declared.Number.{Number}
 use Rattle.number.specs.Numbers.{member, magnitude, value}
 use Rattle.number.proofs.Membership.{Member}
@@ -39,7 +31,7 @@ use Rattle.binary32.specs.Patterns.{finite, patternValue, numberRead}
 use Rattle.binary32.proofs.Fields.{binary32-limits}
 use Rattle.binary32.proofs.RoundTrips.{reads, read-made, read-member, read-inside}
 use Rattle.binary32.proofs.PatternValues.{read-is-value}
-use Rattle.binary32_arithmetic.specs.Exact.{Placed, Holds, turned}
+use Rattle.binary32_arithmetic.specs.Exact.{Placed, Holds, SumOf, turned}
 
 pub binary-24 : Positional 2 24
 binary-24 = positional binary32-limits
@@ -49,45 +41,25 @@ module _ {s : Scale} (e : s ≡ scaleOf binary32) where
   pub scaled-here : Scaled s
   scaled-here = rw e (scaled binary32-limits)
 
-  pub operand-here : {k : ℕ} {x : Wide} → k < 2 ^ 28 → Placed k x → Operand s x
-  operand-here l h = rw e (record { canonical = h .canonical; place-most = omega (arith, h .place-most) })
+  pub bounded-here : {k : ℕ} {x : Wide} → k < 2 ^ 28 → Placed k x → Bounded s x
+  bounded-here l h = rw e (record { canonical = h .canonical; place-most = omega (arith, h .place-most) })
 
-  pub sum-here : (d : Direction) (x y : Wide) {r : Wide} → r ≡ summed (s .base) (s .digits) d x y → r ≡ summed 2 24 d x y
-  sum-here d x y h = rw e at h
+  pub sum-here : (d : Direction) (x y : Wide) {r : Wide} → RoundsZ (s .base) (s .digits) d (valueOf (s .base) x +ℤ valueOf (s .base) y) r → SumOf d x y r
+  sum-here d x y {r} h =
+      let z : RoundsZ 2 24 d (valueOf 2 x +ℤ valueOf 2 y) r = rw e at h in
+      record {
+        placed = λ k hx hy. record {
+          canonical = z .rounds .canonical;
+          place-most = sum-place binary-24 x y z (hx .canonical) (hy .canonical) k (hx .place-most) (hy .place-most);
+        };
+        value = sum-value binary-24 (valueOf 2 x +ℤ valueOf 2 y) z;
+      }
 
 pub placed-more : {k : ℕ} {x : Wide} (n : ℕ) → k ≤ n → Placed k x → Placed n x
 placed-more n l h = record { canonical = h .canonical; place-most = omega (arith, h .place-most) }
 
 pub value-wide : {k : ℕ} {x : Wide} → Placed k x → WideZ 2 24 (valueOf 2 x)
 value-wide {x = x} h = rw (size-signed (x .negative) (sizeOf 2 x)) (canonical-wide binary-24 (h .canonical))
-
--- ---- a sum, rounded in any direction
-pub sum-placed : (d : Direction) (x y : Wide) {k : ℕ} → Placed k x → Placed k y → Placed (k + 1) (summed 2 24 d x y)
-sum-placed d x y {k} h g =
-    record {
-      canonical = summed-result binary-24 d x y .canonical;
-      place-most = summed-place binary-24 d x y (h .canonical) (g .canonical) k (h .place-most) (g .place-most);
-    }
-
--- ---- the sum, rounded down
-module _ (x y : Wide) where
-  pub down-value : valueOf 2 (summed 2 24 Downward x y) ≡ roundZ 2 24 Downward (valueOf 2 x +ℤ valueOf 2 y) 1
-  down-value = summed-value binary-24 Downward x y
-
-  -- a result below zero is one that is not zero
-  down-minus : summed 2 24 Downward x y .negative ≡ true → Under (valueOf 2 (summed 2 24 Downward x y)) (pos 0)
-  down-minus h = by (summed 2 24 Downward x y) _ h (summed-result binary-24 Downward x y .sign)
-    where
-      minus : (m k : ℕ) (s t : Bool) → s ≡ true → s ≡ not (eqb m 0) && t → Under (signed s (m * 2 ^ k)) (pos 0)
-      minus zero k s t h e = absurd (never (sym h ∙ e))
-      minus (suc m) k s t h e =
-          rw h (omega (arith, neg-above (pos (suc m * 2 ^ k)), neg-below (pos (suc m * 2 ^ k)), mul-pos {m = suc m} (omega arith) (pow-pos {β = 2} (omega arith) k)))
-
-      by : (r : Wide) (t : Bool) → r .negative ≡ true → r .negative ≡ not (eqb (r .significand) 0) && t → Under (valueOf 2 r) (pos 0)
-      by r t h e = minus (r .significand) (r .place) (r .negative) t h e
-
-  down-plus : summed 2 24 Downward x y .negative ≡ false → Upto (pos 0) (valueOf 2 (summed 2 24 Downward x y))
-  down-plus h = rw h (omega arith)
 
 -- N rounded down is at least a number of the format exactly where N is
 module _ (N w : ℤ) (h : WideZ 2 24 w) where
@@ -100,45 +72,50 @@ module _ (N w : ℤ) (h : WideZ 2 24 w) where
 turned-value : (x : Wide) → valueOf 2 (turned x) ≡ negℤ (valueOf 2 x)
 turned-value x = sym (negate-signed (x .negative) (sizeOf 2 x))
 
--- ---- is a + b at least c?
-module _ (a b c : Wide) {k : ℕ} (h : Placed k c) where
-  abbrev low : Wide
-  low = summed 2 24 Downward a b
+-- a number that is not below zero: its sign is plus, or it is zero
+pub not-below : (x : Wide) → not (x .negative) || eqb (x .significand) 0 ≡ leZ (pos 0) (valueOf 2 x)
+not-below x = by (x .negative) (x .significand)
+  where
+    by : (s : Bool) (m : ℕ) → not s || eqb m 0 ≡ leZ (pos 0) (signed s (m * 2 ^ x .place))
+    by false m = sym (make-le (pos 0) (pos (m * 2 ^ x .place)) (omega arith))
+    by true zero = sym (ap (λ (n : ℕ). leZ (pos 0) (negℤ (pos n))) (zero-mul (2 ^ x .place)))
+    by true (suc m) =
+        let n : ℕ = suc m * 2 ^ x .place in
+        ne-eqb (suc m) 0 (λ z. omega arith) ∙ refuted (λ h. omega (arith, le-true (pos 0) (negℤ (pos n)) h, neg-above (pos n), neg-below (pos n), mul-pos {m = suc m} (omega arith) (pow-pos {β = 2} (omega arith) (x .place))))
 
-  abbrev rest : Wide
-  rest = summed 2 24 Downward low (turned c)
+-- ---- is a + b at least c? The rest is a + b rounded down, less c, rounded down
+module _ (a b c : Wide) {k : ℕ} (h : Placed k c) {low m rest : Wide} (l : SumOf Downward a b low) (e : m ≡ turned c) (g : SumOf Downward low m rest) where
+  minus : valueOf 2 m ≡ negℤ (valueOf 2 c)
+  minus = ap (valueOf 2) e ∙ turned-value c
 
-  -- a + b rounded down, less c
-  difference : Upto (valueOf 2 c) (valueOf 2 low) → Upto (pos 0) (valueOf 2 low +ℤ valueOf 2 (turned c))
-  difference l =
-      omega (arith, sum-parts (valueOf 2 low) (valueOf 2 (turned c)), ap above (turned-value c), ap below (turned-value c), neg-above (valueOf 2 c), neg-below (valueOf 2 c))
+  difference : Upto (valueOf 2 c) (valueOf 2 low) → Upto (pos 0) (valueOf 2 low +ℤ valueOf 2 m)
+  difference u = omega (arith, sum-parts (valueOf 2 low) (valueOf 2 m), ap above minus, ap below minus, neg-above (valueOf 2 c), neg-below (valueOf 2 c))
 
-  difference-back : Upto (pos 0) (valueOf 2 low +ℤ valueOf 2 (turned c)) → Upto (valueOf 2 c) (valueOf 2 low)
-  difference-back l =
-      omega (arith, sum-parts (valueOf 2 low) (valueOf 2 (turned c)), ap above (turned-value c), ap below (turned-value c), neg-above (valueOf 2 c), neg-below (valueOf 2 c))
+  difference-back : Upto (pos 0) (valueOf 2 low +ℤ valueOf 2 m) → Upto (valueOf 2 c) (valueOf 2 low)
+  difference-back u = omega (arith, sum-parts (valueOf 2 low) (valueOf 2 m), ap above minus, ap below minus, neg-above (valueOf 2 c), neg-below (valueOf 2 c))
 
   abbrev total : ℤ
   total = valueOf 2 a +ℤ valueOf 2 b
 
   there : Upto (valueOf 2 c) total → Upto (pos 0) (valueOf 2 rest)
-  there l =
-      let lower : Upto (valueOf 2 c) (valueOf 2 low) = rw (down-value a b) (down-reaches total (valueOf 2 c) (value-wide h) l) in
-      rw (down-value low (turned c)) (down-reaches (valueOf 2 low +ℤ valueOf 2 (turned c)) (pos 0) (wide-zero binary-24) (difference lower))
+  there u =
+      let lower : Upto (valueOf 2 c) (valueOf 2 low) = rw (l .value) (down-reaches total (valueOf 2 c) (value-wide h) u) in
+      rw (g .value) (down-reaches (valueOf 2 low +ℤ valueOf 2 m) (pos 0) (wide-zero binary-24) (difference lower))
 
   back : Upto (pos 0) (valueOf 2 rest) → Upto (valueOf 2 c) total
-  back l =
+  back u =
       let lower : Upto (valueOf 2 c) (valueOf 2 low) =
-      difference-back (reaches-down (valueOf 2 low +ℤ valueOf 2 (turned c)) (pos 0) (wide-zero binary-24) (rw (down-value low (turned c)) at l)) in
-      reaches-down total (valueOf 2 c) (value-wide h) (rw (down-value a b) at lower)
+      difference-back (reaches-down (valueOf 2 low +ℤ valueOf 2 m) (pos 0) (wide-zero binary-24) (rw (g .value) at u)) in
+      reaches-down total (valueOf 2 c) (value-wide h) (rw (l .value) at lower)
 
-  pub reaches-exactly : not (rest .negative) ≡ leZ (valueOf 2 c) (valueOf 2 a +ℤ valueOf 2 b)
-  reaches-exactly = by (rest .negative) (leZ (valueOf 2 c) (valueOf 2 a +ℤ valueOf 2 b)) refl refl
+  pub reaches-exactly : not (rest .negative) || eqb (rest .significand) 0 ≡ leZ (valueOf 2 c) (valueOf 2 a +ℤ valueOf 2 b)
+  reaches-exactly = not-below rest ∙ by (leZ (pos 0) (valueOf 2 rest)) (leZ (valueOf 2 c) total) refl refl
     where
-      by : (n t : Bool) → rest .negative ≡ n → leZ (valueOf 2 c) (valueOf 2 a +ℤ valueOf 2 b) ≡ t → not n ≡ t
-      by true true e f = absurd (omega (arith, down-minus low (turned c) e, there (le-true (valueOf 2 c) total f)))
-      by true false e f = refl
-      by false true e f = refl
-      by false false e f = absurd (omega (arith, back (down-plus low (turned c) e), le-false (valueOf 2 c) total f))
+      by : (s t : Bool) → leZ (pos 0) (valueOf 2 rest) ≡ s → leZ (valueOf 2 c) total ≡ t → s ≡ t
+      by true true u v = refl
+      by true false u v = absurd (omega (arith, back (le-true (pos 0) (valueOf 2 rest) u), le-false (valueOf 2 c) total v))
+      by false true u v = absurd (omega (arith, there (le-true (valueOf 2 c) total v), le-false (pos 0) (valueOf 2 rest) u))
+      by false false u v = refl
 
 -- ---- 2 x is in the format: of a significand that is not full it has the double, else the next place
 signed-twice : (s : Bool) (n : ℕ) → signed s (n + n) ≡ signed s n +ℤ signed s n
@@ -187,15 +164,11 @@ pattern-holds n h {q} e {x} f {w} g = rw (g, e, f) (record { placed = there; val
     there = record { canonical = member-canonical binary32-limits inside; place-most = member-highest binary32-limits inside }
 
 -- ---- what the code hands on
-pub low-placed : (a b : Wide) → Placed 260 a → Placed 260 b → {r : Wide} → r ≡ summed 2 24 Downward a b → Placed 300 r
-low-placed a b h g e = rw e (placed-more 300 (omega arith) (sum-placed Downward a b h g))
+pub low-placed : {a b low : Wide} → Placed 260 a → Placed 260 b → SumOf Downward a b low → Placed 300 low
+low-placed h g s = placed-more 300 (omega arith) (s .placed 260 h g)
 
 pub turned-placed : {k : ℕ} {c m : Wide} (n : ℕ) → k ≤ n → Placed k c → m ≡ turned c → Placed n m
 turned-placed n l h e = rw e (record { canonical = h .canonical; place-most = omega (arith, h .place-most) })
-
-pub reached : (a b c : Wide) → Placed 260 c → {l m r : Wide} → l ≡ summed 2 24 Downward a b → m ≡ turned c → r ≡ summed 2 24 Downward l m
-    → not (r .negative) ≡ leZ (valueOf 2 c) (valueOf 2 a +ℤ valueOf 2 b)
-reached a b c h e f g = rw (g, e, f) (reaches-exactly a b c h)
 
 pub sums-compared : {u v w u′ v′ w′ : ℤ} → u ≡ u′ → v ≡ v′ → w ≡ w′ → leZ w (u +ℤ v) ≡ leZ w′ (u′ +ℤ v′)
 sums-compared e f g = rw (e, f, g)

@@ -1,48 +1,42 @@
 -- Two magnitudes of at most half the greatest number add up to one that is not too large, in every direction.
-use Prim.Native.Nat.{ℕ, _+_, _*_, _-_, _%_, _^_, _≤_, _<_}
-use mathlib.Core.Path.{_≡_, refl, sym, ap, _∙_}
-use mathlib.Core.Bool.{Bool, true, false}
-use native.Mathlib.Omega.{arith}
-use native.Mathlib.Nat.{le-trans, le-of-eq, mul-le-mul-left}
-use lib.IntN.{ℤ, natAbs, _+ℤ_}
+use Rattle.theory.proofs.Prelude.{ℕ, _≤_, _<_, _+_, _^_, _*_, _-_, _%_, true, false, Bool, _∙_, ap, _≡_, sym, refl, mul-le-mul-left, le-trans, le-of-eq, arith, ℤ, _+ℤ_, natAbs}
 use Rattle.theory.specs.Tests.{_and_, unless}
 use Rattle.theory.specs.declared.Direction.{Direction}
-use Rattle.theory.specs.Signed.{is-negative, roundZ}
+use Rattle.theory.specs.Signed.{isNegative, roundZ}
 use Rattle.theory.proofs.Tests.{and-made, unless-passed}
 use Rattle.theory.proofs.Integers.{size-parts, sum-parts, size-signed}
 use Rattle.theory.proofs.Neighbours.{neighbour-le}
 use Rattle.theory.proofs.Round.{round-neighbour}
 use Rattle.theory.proofs.Signed.{roundZ-size}
 use Rattle.format.specs.declared.Format.{Format}
-use Rattle.format.specs.declared.Verdict.the-variants.{Passed}
+use Rattle.format.specs.Given.{Given, gives}
 use Rattle.format.specs.Published.{binary32}
 use Rattle.format.proofs.Signed.{apart}
 use Rattle.format.proofs.Formats.{Admitted, positional}
 use Rattle.number.specs.declared.Number.{Number}
-use Rattle.number.specs.declared.Answer.{Answer}
-use Rattle.number.specs.declared.Answer.the-variants.{Value}
 use Rattle.number.specs.Numbers.{magnitude, value, greatest}
 use Rattle.number.proofs.Values.{greatest-wide}
 use Rattle.arithmetic.specs.Operations.{roundedZ}
-use Rattle.arithmetic.proofs.Outcome.{Outcome, given, too-large, roundedZ-outcome}
+use Rattle.arithmetic.specs.Outcomes.{Outcome, given, too-large}
+use Rattle.arithmetic.proofs.Outcome.{roundedZ-outcome}
 use Rattle.binary32.specs.Patterns.{fieldOf, finite, magnitudeRead, numberRead, answerWritten}
 use Rattle.binary32.proofs.Fields.{binary32-limits, endless-field}
 use Rattle.binary32.proofs.RoundTrips.{read-made, read-magnitude}
 use Rattle.binary32.proofs.PatternOrder.{magnitude-most}
 use Rattle.binary32_arithmetic.specs.declared.Operation.the-variants.{Sum}
 use Rattle.binary32_arithmetic.specs.Calls.{onPatterns}
-use Rattle.binary32_arithmetic.specs.Slices.{verdictOf}
+use Rattle.binary32_arithmetic.specs.Slices.{passes}
 
 -- ---- a value that is not above the greatest number is not too large when it is rounded
 module _ {f : Format} (ok : Admitted f) (d : Direction) (z : ℤ) (h : natAbs z ≤ greatest f) where
   rounded-within : natAbs (roundZ (f .base) (f .digits) d z 1) ≤ greatest f
   rounded-within =
       le-trans (le-of-eq (roundZ-size (f .base) (f .digits) d z 1))
-      (neighbour-le (positional ok) (round-neighbour (positional ok) d (is-negative z) (natAbs z)) (greatest-wide ok) h)
+      (neighbour-le (positional ok) (round-neighbour (positional ok) d (isNegative z) (natAbs z)) (greatest-wide ok) h)
 
-  gives : (r : Answer) → Outcome f d z 1 r → (x : Number) × (r ≡ Value x)
-  gives r (given {x} g) = (x, refl)
-  gives r (too-large l) = absurd (omega (arith, rounded-within))
+  small-given : (r : Given Number) → Outcome f d z 1 r → (x : Number) × (r ≡ gives x)
+  small-given r (given {x} g) = (x, refl)
+  small-given r (too-large l) = absurd (omega (arith, rounded-within))
 
 -- ---- half the greatest number
 half-greatest : 2 * magnitudeRead 2130706431 ≡ greatest binary32
@@ -67,11 +61,11 @@ module _ (d : Direction) (a b : ℕ) (ha : a % 2 ^ 31 < 254 * 2 ^ 23) (hb : b % 
   unfolding value
   size n h = size-signed (numberRead n .negative) (magnitude binary32 (numberRead n)) ∙ read-magnitude n (read-made n (half-finite n h))
 
-  pub halves-pass : Passed ≡ verdictOf (onPatterns Sum d a b)
+  pub halves-pass : gives tt ≡ passes (onPatterns Sum d a b)
   unfolding onPatterns
   halves-pass =
       let z = value binary32 (numberRead a) +ℤ value binary32 (numberRead b) in
       let within : natAbs z ≤ greatest binary32 =
       omega (arith, sum-size (value binary32 (numberRead a)) (value binary32 (numberRead b)), size a ha, size b hb, half-size a ha, half-size b hb) in
-      let g = gives binary32-limits d z within (roundedZ binary32 d z) (roundedZ-outcome binary32-limits d z) in
-      sym (ap verdictOf (unless-passed _ _ (and-made (half-finite a ha) (half-finite b hb)) ∙ ap answerWritten (g .1)))
+      let g = small-given binary32-limits d z within (roundedZ binary32 d z) (roundedZ-outcome binary32-limits d z) in
+      sym (ap passes (unless-passed _ _ (and-made (half-finite a ha) (half-finite b hb)) ∙ ap answerWritten (g .1)))

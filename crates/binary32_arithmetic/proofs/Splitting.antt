@@ -1,33 +1,20 @@
 -- Sums to nearest without an error, and the order of two sums by their parts.
-use Prim.Native.Nat.{ℕ, _+_, _%_, _^_, _≤_}
-use mathlib.Core.Path.{_≡_, refl, sym, ap, subst, _∙_}
-use mathlib.Core.Bool.{Bool, true, false, not, cond}
-use mathlib.Core.Logic.{inl}
-use native.Mathlib.Omega.{arith}
-use lib.IntN.{ℤ, pos, negℤ, natAbs, _+ℤ_, _-ℤ_, _*ℤ_}
-use lib.Signed.{leZ}
+use Rattle.theory.proofs.Prelude.{ℕ, _≤_, _+_, _^_, _%_, true, false, Bool, cond, not, inl, _∙_, ap, _≡_, sym, refl, subst, arith, ℤ, pos, _+ℤ_, natAbs, _-ℤ_, negℤ, _*ℤ_, leZ}
 use Rattle.theory.specs.declared.Direction.the-variants.{NearestEven}
 use Rattle.theory.specs.Signed.{roundZ}
-use Rattle.theory.specs.FastTwoSum.{Triple}
 use Rattle.theory.proofs.Integers.{above, below, sum-parts, diff-parts, neg-above, neg-below, negate-signed, size-signed, le-parts, parts-eq, parts-scale-le, scale-above, scale-below}
 use Rattle.theory.proofs.Round.{to-even}
 use Rattle.theory.proofs.Signed.{roundZ-mono}
-use Rattle.theory.proofs.FastTwoSum.{nearest-exact, rounded-triple}
+use Rattle.theory.proofs.FastTwoSum.{WideTriple, nearest-exact, rounded-triple}
 use Rattle.theory.proofs.Tests.{denied, granted}
 use Rattle.format.proofs.Signed.{Upto, le-true, le-false}
-use Rattle.wide.specs.declared.Wide.{Wide}
+use Rattle.rounding.specs.declared.Wide.{Wide}
 use Rattle.wide.specs.Operand.{sizeOf, valueOf}
-use Rattle.wide.specs.Sum.{summed}
-use Rattle.wide.proofs.Results.{summed-value}
 use Rattle.binary32.specs.Patterns.{signOf, magnitudeRead, patternValue}
 use Rattle.binary32.proofs.PatternOrder.{magnitude-most}
 use Rattle.binary32_arithmetic.specs.declared.Parts.{Parts}
-use Rattle.binary32_arithmetic.specs.Exact.{Placed, turned, zeroWide, Splits, splitUpto}
-use Rattle.binary32_arithmetic.proofs.ExactSums.{binary-24, value-wide, placed-more, sum-placed}
-
--- ---- a sum to nearest
-near-value : (x y : Wide) → valueOf 2 (summed 2 24 NearestEven x y) ≡ roundZ 2 24 NearestEven (valueOf 2 x +ℤ valueOf 2 y) 1
-near-value x y = summed-value binary-24 NearestEven x y
+use Rattle.binary32_arithmetic.specs.Exact.{Placed, SumOf, turned, zeroWide, Splits, splitUpto}
+use Rattle.binary32_arithmetic.proofs.ExactSums.{binary-24, value-wide, placed-more}
 
 turned-here : {k : ℕ} (c : Wide) → Placed k c → {m : Wide} → m ≡ turned c → Placed k m
 turned-here c h e = rw e (record { canonical = h .canonical; place-most = h .place-most })
@@ -40,9 +27,9 @@ less u v e =
     rw e (parts-eq (u +ℤ negℤ v) (u -ℤ v) (omega (arith, sum-parts u (negℤ v), diff-parts u v, neg-above v, neg-below v)))
 
 -- ---- three steps
-module _ (a b : Wide) (ha : Placed 253 a) (hb : Placed 253 b) {x : Wide} (ex : x ≡ summed 2 24 NearestEven a b) where
+module _ (a b : Wide) (ha : Placed 253 a) (hb : Placed 253 b) {x : Wide} (ex : SumOf NearestEven a b x) where
   x-placed : Placed 254 x
-  x-placed = rw ex (sum-placed NearestEven a b ha hb)
+  x-placed = ex .placed 253 ha hb
 
   module _ {m : Wide} (em : m ≡ turned a) where
     m-placed : Placed 254 m
@@ -51,9 +38,9 @@ module _ (a b : Wide) (ha : Placed 253 a) (hb : Placed 253 b) {x : Wide} (ex : x
     pub second-placed : Placed 300 x × Placed 300 m
     second-placed = (placed-more 300 (omega arith) x-placed, placed-more 300 (omega arith) m-placed)
 
-    module _ {z : Wide} (ez : z ≡ summed 2 24 NearestEven x m) where
+    module _ {z : Wide} (ez : SumOf NearestEven x m z) where
       z-placed : Placed 255 z
-      z-placed = rw ez (sum-placed NearestEven x m x-placed m-placed)
+      z-placed = ez .placed 254 x-placed m-placed
 
       module _ {w : Wide} (ew : w ≡ turned z) where
         w-placed : Placed 255 w
@@ -62,26 +49,24 @@ module _ (a b : Wide) (ha : Placed 253 a) (hb : Placed 253 b) {x : Wide} (ex : x
         pub third-placed : Placed 300 b × Placed 300 w
         third-placed = (placed-more 300 (omega arith) hb, placed-more 300 (omega arith) w-placed)
 
-        module _ (order : natAbs (valueOf 2 b) ≤ natAbs (valueOf 2 a)) {y : Wide} (ey : y ≡ summed 2 24 NearestEven b w) where
+        module _ (order : natAbs (valueOf 2 b) ≤ natAbs (valueOf 2 a)) {y : Wide} (ey : SumOf NearestEven b w y) where
           y-placed : Placed 256 y
-          y-placed = rw ey (sum-placed NearestEven b w (placed-more 255 (omega arith) hb) w-placed)
+          y-placed = ey .placed 255 (placed-more 255 (omega arith) hb) w-placed
 
           x-is : valueOf 2 x ≡ roundZ 2 24 NearestEven (valueOf 2 a +ℤ valueOf 2 b) 1
-          x-is = ap (valueOf 2) ex ∙ near-value a b
+          x-is = ex .value
 
           z-is : valueOf 2 z ≡ roundZ 2 24 NearestEven (valueOf 2 x -ℤ valueOf 2 a) 1
           z-is =
-              ap (valueOf 2) ez
-              ∙ near-value x m
+              ez .value
               ∙ ap (λ (v : ℤ). roundZ 2 24 NearestEven v 1) (less (valueOf 2 x) (valueOf 2 a) (minus a em))
 
           y-is : valueOf 2 y ≡ roundZ 2 24 NearestEven (valueOf 2 b -ℤ valueOf 2 z) 1
           y-is =
-              ap (valueOf 2) ey
-              ∙ near-value b w
+              ey .value
               ∙ ap (λ (v : ℤ). roundZ 2 24 NearestEven v 1) (less (valueOf 2 b) (valueOf 2 z) (minus z ew))
 
-          triple : Triple 24 (valueOf 2 a) (valueOf 2 b) (valueOf 2 x) (valueOf 2 z) (valueOf 2 y)
+          triple : WideTriple 24 (valueOf 2 a) (valueOf 2 b) (valueOf 2 x) (valueOf 2 z) (valueOf 2 y)
           triple =
               rounded-triple binary-24 NearestEven NearestEven NearestEven (valueOf 2 a) (valueOf 2 b) (value-wide ha) (value-wide hb) order x-is z-is y-is
 

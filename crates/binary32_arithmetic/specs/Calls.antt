@@ -3,35 +3,33 @@ use Prim.Native.Nat.{ℕ}
 use Rattle.theory.specs.Tests.{_and_, unless}
 use Rattle.theory.specs.declared.Direction.{Direction}
 use Rattle.format.specs.declared.Format.{Format}
-use Rattle.format.specs.declared.Refusal.the-variants.{NoSuchDirection, NotFinite}
+use Rattle.format.specs.declared.Refusal.the-variants.{NotFinite}
 use Rattle.format.specs.Directions.{isDirection, direction}
+use Rattle.format.specs.Given.{Given, refused}
 use Rattle.format.specs.Published.{binary32}
 use Rattle.number.specs.declared.Number.{Number}
-use Rattle.number.specs.declared.Answer.{Answer}
 use Rattle.arithmetic.specs.Operations.{roundedSum, roundedDifference, roundedProduct, roundedQuotient}
-use Rattle.binary32.specs.declared.Pattern.{Pattern}
-use Rattle.binary32.specs.declared.Pattern.the-variants as pattern
 use Rattle.binary32.specs.Patterns.{finite, numberRead, answerWritten}
 use Rattle.binary32_arithmetic.specs.declared.Operation.{Operation}
 use Rattle.binary32_arithmetic.specs.declared.Operation.the-variants.{Sum, Difference, Product, Quotient}
-use Rattle.binary32_arithmetic.specs.declared.Operands.{Operands}
-use Rattle.binary32_arithmetic.specs.declared.Operands.the-variants as operands
-
--- two patterns read, or refusal 9
-unfoldable pub operandsOf : (a b : ℕ) → Operands
-operandsOf a b = unless (finite a and finite b) (operands.Refused NotFinite) (operands.Both (record { first = numberRead a; second = numberRead b }))
+use Rattle.binary32_arithmetic.specs.declared.PairAnswer.{PairAnswer}
+use Rattle.binary32_arithmetic.specs.declared.PairAnswer.the-variants as pair
 
 -- an operation of a format
-abbrev pub roundedBy : Operation → Format → Direction → (a b : Number) → Answer
+abbrev pub roundedBy : Operation → Format → Direction → (a b : Number) → Given Number
 roundedBy Sum f d a b = roundedSum f d a b
 roundedBy Difference f d a b = roundedDifference f d a b
 roundedBy Product f d a b = roundedProduct f d a b
 roundedBy Quotient f d a b = roundedQuotient f d a b
 
 -- an operation of format 2 on the numbers of two patterns, its result written
-unfoldable pub onPatterns : Operation → Direction → (a b : ℕ) → Pattern
-onPatterns operation d a b = unless (finite a and finite b) (pattern.Refused NotFinite) (answerWritten (roundedBy operation binary32 d (numberRead a) (numberRead b)))
+unfoldable pub onPatterns : Operation → Direction → (a b : ℕ) → Given ℕ
+onPatterns operation d a b = unless (finite a and finite b) (refused 9) (answerWritten (roundedBy operation binary32 d (numberRead a) (numberRead b)))
 
 -- the public calls: refusal 2 comes first
-unfoldable pub patternCall : Operation → (d a b : ℕ) → Pattern
-patternCall operation d a b = unless (isDirection d) (pattern.Refused NoSuchDirection) (onPatterns operation (direction d) a b)
+unfoldable pub patternCall : Operation → (d a b : ℕ) → Given ℕ
+patternCall operation d a b = unless (isDirection d) (refused 2) (onPatterns operation (direction d) a b)
+
+-- ---- for inner functions: two patterns read, or refusal 9
+unfoldable pub pairOf : (a b : ℕ) → PairAnswer
+pairOf a b = unless (finite a and finite b) (pair.Refused NotFinite) (pair.Both (record { first = numberRead a; second = numberRead b }))

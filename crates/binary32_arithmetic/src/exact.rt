@@ -5,20 +5,18 @@ use arithmetic::operands::wide_of;
 use binary32::patterns::read_finite;
 use binary32::prepared::prepared_binary32;
 use format::Scale;
+use rounding::Wide;
 use theory::Direction;
-use wide::Wide;
 ghost use mathlib.Core.Path.{_≡_};
 ghost use mathlib.Core.Bool.{true};
 ghost use lib.IntN.{_+ℤ_, natAbs};
 ghost use lib.Signed.{leZ, ltZ};
-ghost use Rattle.theory.specs.declared.Direction.the-variants.{NearestEven, Downward};
 ghost use Prim.Native.Nat.{_≤_};
 ghost use Rattle.format.specs.Formats.{scaleOf};
 ghost use Rattle.format.specs.Published.{binary32};
 ghost use Rattle.wide.specs.Operand.{valueOf};
-ghost use Rattle.wide.specs.Sum.{summed};
 ghost use Rattle.binary32.specs.Patterns.{finite, patternValue};
-ghost use Rattle.binary32_arithmetic.specs.Exact.{Placed, Holds, turned, zeroWide, Splits, splitUpto};
+ghost use Rattle.binary32_arithmetic.specs.Exact.{Placed, Holds, SumOf, turned, zeroWide, Splits, splitUpto};
 
 // 24 binary digits.
 pub fn binary32_scale() -> Scale
@@ -32,12 +30,12 @@ pub fn binary32_scale() -> Scale
     }
 }
 
-// x + y, rounded down.
-fn sum_down(x: Wide, y: Wide) -> Wide
+// x + y, rounded.
+fn sum_of(direction: Direction, x: Wide, y: Wide) -> Wide
     requires { ⌜ Placed 300 x × Placed 300 y ⌝ }
-    ensures { λ r. ⌜ r ≡ summed 2 24 Downward x y ⌝ }
+    ensures { λ r. ⌜ SumOf direction x y r ⌝ }
 {
-    wide::sum::sum(binary32_scale(), Direction::Downward, x, y)
+    wide::sum::sum(binary32_scale(), direction, x, y)
 }
 
 // The number of a finite pattern, in the wide format.
@@ -84,8 +82,9 @@ pub fn sum_reaches(a: Wide, b: Wide, c: Wide) -> bool
     requires { ⌜ Placed 260 a × Placed 260 b × Placed 260 c ⌝ }
     ensures { λ r. ⌜ r ≡ leZ (valueOf 2 c) (valueOf 2 a +ℤ valueOf 2 b) ⌝ }
 {
-    let rest = sum_down(sum_down(a, b), negated(c));
-    !rest.negative
+    let low = sum_of(Direction::Downward, a, b);
+    let rest = sum_of(Direction::Downward, low, negated(c));
+    !rest.negative | (rest.significand == 0)
 }
 
 // Is a + b above c? Exactly where -a - b is not at least -c.
@@ -120,22 +119,14 @@ pub fn exceeds_twice(a: u32, b: u32, c: u32) -> bool
     sum_exceeds(read_wide(a), read_wide(b), doubled(read_wide(c)))
 }
 
-// x + y, rounded to nearest.
-fn sum_nearest(x: Wide, y: Wide) -> Wide
-    requires { ⌜ Placed 300 x × Placed 300 y ⌝ }
-    ensures { λ r. ⌜ r ≡ summed 2 24 NearestEven x y ⌝ }
-{
-    wide::sum::sum(binary32_scale(), Direction::NearestEven, x, y)
-}
-
 // a + b in three steps, where b is not greater than a in magnitude.
 fn split_ordered(a: Wide, b: Wide) -> Parts
     requires { ⌜ Placed 253 a × Placed 253 b × (natAbs (valueOf 2 b) ≤ natAbs (valueOf 2 a)) ⌝ }
     ensures { λ r. ⌜ Splits (valueOf 2 a +ℤ valueOf 2 b) r ⌝ }
 {
-    let x = sum_nearest(a, b);
-    let z = sum_nearest(x, negated(a));
-    let y = sum_nearest(b, negated(z));
+    let x = sum_of(Direction::NearestEven, a, b);
+    let z = sum_of(Direction::NearestEven, x, negated(a));
+    let y = sum_of(Direction::NearestEven, b, negated(z));
     Parts { high: x, low: y }
 }
 

@@ -7,7 +7,7 @@ pub mod slices;
 
 use format::Refusal;
 use number::Number;
-use wide::Wide;
+use rounding::Wide;
 
 // Two numbers that were read.
 pub struct Pair {
@@ -16,7 +16,7 @@ pub struct Pair {
 }
 
 // Two finite patterns, read.
-pub enum Operands {
+pub enum PairAnswer {
     Both(Pair),
     Refused(Refusal),
 }

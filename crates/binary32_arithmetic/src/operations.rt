@@ -1,31 +1,33 @@
 // The four operations on patterns, in a direction that is known and as public calls.
-use crate::Operands;
 use crate::Operation;
+use crate::PairAnswer;
 use crate::entry::read_two;
 use crate::entry::write_answer;
 use arithmetic::product::multiply;
 use arithmetic::quotient::divide;
 use arithmetic::sum::add;
 use arithmetic::sum::subtract;
-use binary32::Pattern;
+use binary32::PatternAnswer;
 use binary32::prepared::prepared_binary32;
 use format::Refusal;
 use format::directions::direction_of;
 use format::directions::is_direction;
-use number::Answer;
 use number::Number;
+use number::NumberAnswer;
 use theory::Direction;
 ghost use mathlib.Core.Path.{_≡_};
 ghost use mathlib.Core.Bool.{true};
 ghost use Rattle.format.specs.Published.{binary32};
+ghost use Rattle.number.specs.Answers.{numberGiven};
 ghost use Rattle.number.specs.Numbers.{member};
+ghost use Rattle.binary32.specs.Patterns.{patternGiven};
 ghost use Rattle.binary32_arithmetic.specs.Calls.{roundedBy, onPatterns, patternCall};
 ghost use Rattle.binary32_arithmetic.specs.declared.Operation.the-variants.{Sum, Difference, Product, Quotient};
 
 // The operation on two numbers of format 2. Refuses 4, 5.
-fn operate(operation: Operation, direction: Direction, a: Number, b: Number) -> Answer
+fn operate(operation: Operation, direction: Direction, a: Number, b: Number) -> NumberAnswer
     requires { ⌜ (member binary32 a ≡ true) × (member binary32 b ≡ true) ⌝ }
-    ensures { λ r. ⌜ r ≡ roundedBy operation binary32 direction a b ⌝ }
+    ensures { λ r. ⌜ numberGiven r ≡ roundedBy operation binary32 direction a b ⌝ }
 {
     let prepared = prepared_binary32();
     match operation {
@@ -37,12 +39,17 @@ fn operate(operation: Operation, direction: Direction, a: Number, b: Number) -> 
 }
 
 // The operation on two patterns. Refuses 9, 4, 5.
-pub fn operate_on_patterns(operation: Operation, direction: Direction, a: u32, b: u32) -> Pattern
-    ensures { λ r. ⌜ r ≡ onPatterns operation direction a b ⌝ }
+pub fn operate_on_patterns(
+    operation: Operation,
+    direction: Direction,
+    a: u32,
+    b: u32,
+) -> PatternAnswer
+    ensures { λ r. ⌜ patternGiven r ≡ onPatterns operation direction a b ⌝ }
 {
     match read_two(a, b) {
-        Operands::Refused(why) => Pattern::Refused(why),
-        Operands::Both(pair) => write_answer(operate(
+        PairAnswer::Refused(why) => PatternAnswer::Refused(why),
+        PairAnswer::Both(pair) => write_answer(operate(
             operation,
             direction,
             pair.first,
@@ -52,39 +59,39 @@ pub fn operate_on_patterns(operation: Operation, direction: Direction, a: u32, b
 }
 
 // The same in a direction that is examined. Refuses 2, 9, 4, 5.
-pub fn call_on_patterns(operation: Operation, direction: u32, a: u32, b: u32) -> Pattern
-    ensures { λ r. ⌜ r ≡ patternCall operation direction a b ⌝ }
+pub fn call_on_patterns(operation: Operation, direction: u32, a: u32, b: u32) -> PatternAnswer
+    ensures { λ r. ⌜ patternGiven r ≡ patternCall operation direction a b ⌝ }
 {
     if !is_direction(direction) {
-        return Pattern::Refused(Refusal::NoSuchDirection);
+        return PatternAnswer::Refused(Refusal::NoSuchDirection);
     }
     operate_on_patterns(operation, direction_of(direction), a, b)
 }
 
 // a + b. Refuses 2, 9, 5.
-pub fn pattern_sum(direction: u32, a: u32, b: u32) -> Pattern
-    ensures { λ r. ⌜ r ≡ patternCall Sum direction a b ⌝ }
+pub fn pattern_sum(direction: u32, a: u32, b: u32) -> PatternAnswer
+    ensures { λ r. ⌜ patternGiven r ≡ patternCall Sum direction a b ⌝ }
 {
     call_on_patterns(Operation::Sum, direction, a, b)
 }
 
 // a - b. Refuses 2, 9, 5.
-pub fn pattern_difference(direction: u32, a: u32, b: u32) -> Pattern
-    ensures { λ r. ⌜ r ≡ patternCall Difference direction a b ⌝ }
+pub fn pattern_difference(direction: u32, a: u32, b: u32) -> PatternAnswer
+    ensures { λ r. ⌜ patternGiven r ≡ patternCall Difference direction a b ⌝ }
 {
     call_on_patterns(Operation::Difference, direction, a, b)
 }
 
 // a * b. Refuses 2, 9, 5.
-pub fn pattern_product(direction: u32, a: u32, b: u32) -> Pattern
-    ensures { λ r. ⌜ r ≡ patternCall Product direction a b ⌝ }
+pub fn pattern_product(direction: u32, a: u32, b: u32) -> PatternAnswer
+    ensures { λ r. ⌜ patternGiven r ≡ patternCall Product direction a b ⌝ }
 {
     call_on_patterns(Operation::Product, direction, a, b)
 }
 
 // a / b. Refuses 2, 9, 4, 5.
-pub fn pattern_quotient(direction: u32, a: u32, b: u32) -> Pattern
-    ensures { λ r. ⌜ r ≡ patternCall Quotient direction a b ⌝ }
+pub fn pattern_quotient(direction: u32, a: u32, b: u32) -> PatternAnswer
+    ensures { λ r. ⌜ patternGiven r ≡ patternCall Quotient direction a b ⌝ }
 {
     call_on_patterns(Operation::Quotient, direction, a, b)
 }

@@ -1,13 +1,7 @@
 -- From a running sum on: the last x and all y, added up exactly, are no farther from x and the strips than the sum of |x| after
 -- each step divided by 2 ^ 47, in directions 0 and 1 not at all, and a step that is missing was too large. It follows from demand 3
 -- at each step (StepLaws).
-use Prim.Native.Nat.{ℕ, suc, _+_, _*_, _^_, _≤_, _<_}
-use mathlib.Core.Path.{_≡_, refl}
-use mathlib.Core.Bool.{true}
-use mathlib.Core.List.{List, [], _∷_}
-use native.Mathlib.Omega.{arith}
-use lib.IntN.{natAbs, _+ℤ_, _-ℤ_}
-use lib.ListN.{length, getD}
+use Rattle.theory.proofs.Prelude.{ℕ, _≤_, _<_, _+_, _^_, _*_, suc, true, [], _∷_, List, _≡_, refl, arith, _+ℤ_, natAbs, _-ℤ_, length, getD}
 use Rattle.theory.specs.Lists.{all}
 use Rattle.theory.specs.declared.Direction.{Direction}
 use Rattle.theory.proofs.Tests.{and-made}

@@ -1,11 +1,5 @@
 -- The checks of a call on any lists, one after the other, and what `rests` holds after each.
-use Prim.Native.Nat.{ℕ, suc, _≤_, _<_}
-use mathlib.Core.Path.{_≡_, sym, ap, _∙_}
-use mathlib.Core.Bool.{true, false}
-use mathlib.Core.List.{List}
-use lib.Dec.{leb}
-use lib.ListN.{length}
-use borrow.Author.Tests.{le-leb, lt-leb, eq-eqb, ne-eqb}
+use Rattle.theory.proofs.Prelude.{ℕ, _≤_, _<_, suc, true, false, List, _∙_, ap, _≡_, sym, leb, length, ne-eqb, eq-eqb, le-leb, lt-leb}
 use Rattle.theory.specs.Tests.{_and_}
 use Rattle.theory.specs.Lists.{firstWhere, none}
 use Rattle.theory.specs.declared.Direction.{Direction}
@@ -13,7 +7,7 @@ use Rattle.theory.proofs.Tests.{and-made, unless-passed, unless-failed}
 use Rattle.format.specs.Given.{Given, gives, refused, refusedAt}
 use Rattle.format.specs.Directions.{isDirection, direction}
 use Rattle.binary32.specs.Patterns.{notFinite}
-use Rattle.boundaries.specs.Sums.{boundarySteps, lastX, restsOf, firstOf, summed, boundaryAnswer, writtenWhere, boundaryRests}
+use Rattle.boundaries.specs.Sums.{boundarySteps, lastX, restsOf, firstOf, stripsSummed, boundaryAnswer, writtenWhere, boundaryRests}
 
 module _ (d : ℕ) (strips rests : List ℕ) where
   -- both promises of a call that gives g
@@ -50,10 +44,10 @@ module _ (d : ℕ) (strips rests : List ℕ) where
           not-finite h =
               sym (unless-passed _ _ number ∙ unless-passed _ _ (eq-eqb _ _ second) ∙ unless-passed _ _ directed ∙ unless-failed _ _ (lt-leb _ _ h))
 
-          pub checked : none notFinite strips ≡ true → {s : Direction} → s ≡ direction d → summed s strips ≡ boundaryAnswer d strips rests
+          pub checked : none notFinite strips ≡ true → {s : Direction} → s ≡ direction d → stripsSummed s strips ≡ boundaryAnswer d strips rests
           unfolding boundaryAnswer
           checked h e =
-              ap (λ (s : Direction). summed s strips) e
+              ap (λ (s : Direction). stripsSummed s strips) e
               ∙ sym (unless-passed _ _ number ∙ unless-passed _ _ (eq-eqb _ _ second) ∙ unless-passed _ _ directed ∙ unless-passed _ _ h)
 
 -- where no position passes, none does
@@ -63,10 +57,10 @@ none-made strips h = le-leb _ _ h
 
 -- ---- after the second pass
 module _ (d : Direction) (strips : List ℕ) where
-  pub too-large-is : (suc (length (boundarySteps d strips)) ≡ length strips → ⊥) → summed d strips ≡ refusedAt 5 (suc (length (boundarySteps d strips)))
-  unfolding summed
+  pub too-large-is : (suc (length (boundarySteps d strips)) ≡ length strips → ⊥) → stripsSummed d strips ≡ refusedAt 5 (suc (length (boundarySteps d strips)))
+  unfolding stripsSummed
   too-large-is h = unless-failed _ _ (ne-eqb _ _ h)
 
-  pub sum-is : suc (length (boundarySteps d strips)) ≡ length strips → summed d strips ≡ gives (lastX (firstOf strips) (boundarySteps d strips))
-  unfolding summed
+  pub sum-is : suc (length (boundarySteps d strips)) ≡ length strips → stripsSummed d strips ≡ gives (lastX (firstOf strips) (boundarySteps d strips))
+  unfolding stripsSummed
   sum-is h = unless-passed _ _ (eq-eqb _ _ h)

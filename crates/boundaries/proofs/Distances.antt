@@ -1,7 +1,5 @@
 -- Distances of integers add up.
-use Prim.Native.Nat.{_+_, _≤_}
-use native.Mathlib.Omega.{arith}
-use lib.IntN.{ℤ, natAbs, _+ℤ_, _-ℤ_}
+use Rattle.theory.proofs.Prelude.{_≤_, _+_, arith, ℤ, _+ℤ_, natAbs, _-ℤ_}
 use Rattle.theory.proofs.Integers.{Adds, sum-parts, diff-parts, size-parts}
 use Rattle.format.proofs.Signed.{apart}
 

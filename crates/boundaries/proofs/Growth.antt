@@ -1,18 +1,10 @@
 -- Small strips: the sum of i of them has a magnitude of at most i times 2 ^ 264, a number of the format for i up to 4,096, so that no
 -- rounding takes it beyond that.
-use Prim.Native.Nat.{ℕ, suc, _+_, _*_, _%_, _^_, _≤_, _<_}
-use mathlib.Core.Path.{_≡_, refl, sym, ap}
-use mathlib.Core.Bool.{true}
-use mathlib.Core.List.{List, [], _∷_}
-use native.Mathlib.Nat.{le-trans, le-of-eq, mul-le-mul-right}
-use native.Mathlib.Omega.{arith}
-use lib.IntN.{ℤ, natAbs}
-use lib.ListN.{length}
-use borrow.Author.Tests.{leb-true, ltb-true}
+use Rattle.theory.proofs.Prelude.{ℕ, _≤_, _<_, _+_, _^_, _*_, suc, _%_, true, [], _∷_, List, ap, _≡_, sym, refl, mul-le-mul-right, le-trans, le-of-eq, arith, ℤ, natAbs, length, leb-true, ltb-true}
 use Rattle.theory.specs.Lists.{all}
 use Rattle.theory.specs.declared.Direction.{Direction}
 use Rattle.theory.specs.Wide.{Wide}
-use Rattle.theory.specs.Signed.{is-negative, roundZ}
+use Rattle.theory.specs.Signed.{isNegative, roundZ}
 use Rattle.theory.proofs.Tests.{and-left, and-right}
 use Rattle.theory.proofs.Integers.{sum-parts, size-signed}
 use Rattle.theory.proofs.Neighbours.{neighbour-le}
@@ -26,7 +18,7 @@ use Rattle.binary32.proofs.Fields.{binary32-limits}
 use Rattle.binary32.proofs.PatternOrder.{magnitude-most}
 use Rattle.boundaries.specs.declared.StepAnswer.{StepAnswer}
 use Rattle.boundaries.specs.Sums.{stripAdded, andOn, stepsFrom, boundarySteps}
-use Rattle.boundaries.specs.Steps.{small}
+use Rattle.boundaries.specs.Steps.{smallStrip}
 use Rattle.boundaries.proofs.Distances.{size-added}
 use Rattle.boundaries.proofs.StepLaws.{pairSum, Outcome, added, too-large, outcome}
 use Rattle.boundaries.proofs.Bounds.{AllFinite}
@@ -35,7 +27,7 @@ use Rattle.boundaries.proofs.Bounds.{AllFinite}
 rounded-upto : (d : Direction) (z : ℤ) {w : ℕ} → Wide 2 24 w → natAbs z ≤ w → natAbs (roundZ 2 24 d z 1) ≤ w
 rounded-upto d z wide h =
     le-trans (le-of-eq (roundZ-size 2 24 d z 1))
-    (neighbour-le (positional binary32-limits) (round-neighbour (positional binary32-limits) d (is-negative z) (natAbs z)) wide h)
+    (neighbour-le (positional binary32-limits) (round-neighbour (positional binary32-limits) d (isNegative z) (natAbs z)) wide h)
 
 -- what no small magnitude exceeds
 top : ℕ
@@ -45,7 +37,7 @@ limit : magnitudeRead 2030043135 ≤ top
 unfolding magnitudeRead top
 limit = leb-true _ _ refl
 
-small-size : (n : ℕ) → small n ≡ true → natAbs (patternValue n) ≤ top
+small-size : (n : ℕ) → smallStrip n ≡ true → natAbs (patternValue n) ≤ top
 unfolding patternValue
 small-size n h =
     le-trans (le-of-eq (size-signed (signOf n) (magnitudeRead n)))
@@ -57,7 +49,7 @@ unfolding greatest top
 room = leb-true _ _ refl
 
 -- the rounded sum of i + 1 strips
-module _ (d : Direction) (i x s : ℕ) (l : i < 4096) (h : natAbs (patternValue x) ≤ i * top) (k : small s ≡ true) where
+module _ (d : Direction) (i x s : ℕ) (l : i < 4096) (h : natAbs (patternValue x) ≤ i * top) (k : smallStrip s ≡ true) where
   exact-upto : natAbs (pairSum x s) ≤ suc i * top
   exact-upto = omega (arith, size-added (pairSum x s) (patternValue x) (patternValue s) (sum-parts (patternValue x) (patternValue s)), small-size s k, h)
 
@@ -72,7 +64,7 @@ module _ (d : Direction) (i x s : ℕ) (l : i < 4096) (h : natAbs (patternValue 
   sum-small = le-trans (mul-le-mul-right top (let m : suc i ≤ 4096 = omega arith in m)) room
 
 -- so every strip is added
-all-added : (d : Direction) (strips : List ℕ) → AllFinite strips → all small strips ≡ true → (i x : ℕ) → i + length strips ≤ 4096 → finite x ≡ true
+all-added : (d : Direction) (strips : List ℕ) → AllFinite strips → all smallStrip strips ≡ true → (i x : ℕ) → i + length strips ≤ 4096 → finite x ≡ true
     → natAbs (patternValue x) ≤ i * top → length (stepsFrom d x strips) ≡ length strips
 unfolding stepsFrom all
 all-added d [] f h i x l j k = refl
@@ -85,7 +77,7 @@ all-added d (s ∷ strips) f h i x l j k =
     by others m r p (added {t = t} g) = ap suc (others (t .x) (omega arith) (g .x-finite) (le-trans (le-of-eq (ap natAbs (g .x-is))) m))
     by others m r p (too-large e b) = absurd (omega (arith, m, r, b))
 
-pub small-added : (d : Direction) (strips : List ℕ) → 1 ≤ length strips → length strips ≤ 4096 → AllFinite strips → all small strips ≡ true
+pub small-added : (d : Direction) (strips : List ℕ) → 1 ≤ length strips → length strips ≤ 4096 → AllFinite strips → all smallStrip strips ≡ true
     → length strips ≡ suc (length (boundarySteps d strips))
 unfolding boundarySteps all
 small-added d [] some few f h = absurd (omega arith)

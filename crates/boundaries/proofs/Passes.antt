@@ -1,11 +1,8 @@
 -- The passes over the strips, one strip more: what was done and what is left are the whole.
-use Prim.Native.Nat.{ℕ, suc, _+_, _≤_, _<_}
-use mathlib.Core.Path.{_≡_, refl, sym, ap, _∙_}
-use mathlib.Core.List.{List, [], _∷_, _++_, append-assoc, append-nil}
-use native.Mathlib.Numerals.{add-one, one-add}
-use native.Mathlib.Omega.{arith}
-use lib.ListN.{length, getD, take, drop, set, length-take}
-use lib.Seq.{drop-cons, drop-length, take-suc-set, take-all}
+use Rattle.theory.proofs.Prelude.{ℕ, _≤_, _<_, _+_, suc, [], _∷_, List, _++_, append-nil, append-assoc, _∙_, ap, _≡_, sym, refl, add-one, arith, length, getD, drop, take, set, drop-cons, drop-length, take-all}
+use native.Mathlib.Numerals.{one-add}
+use lib.ListN.{length-take}
+use lib.Seq.{take-suc-set}
 use Rattle.theory.specs.declared.Direction.{Direction}
 use Rattle.boundaries.specs.declared.Step.{Step}
 use Rattle.boundaries.specs.declared.StepAnswer.{StepAnswer}

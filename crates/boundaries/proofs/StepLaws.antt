@@ -1,40 +1,29 @@
 -- What one step of a boundary's sum gives: demand 3 on two finite patterns. Only the first of its three steps may be too large.
-use Prim.Native.Nat.{ℕ, _*_, _^_, _≤_, _<_}
-use mathlib.Core.Path.{_≡_, refl, sym, ap, ap₂, subst, _∙_}
-use mathlib.Core.Bool.{Bool, true, false, cond}
-use mathlib.Core.Logic.{⊎-elim}
-use native.Mathlib.Decide.{decLe}
+use Rattle.theory.proofs.Prelude.{ℕ, _≤_, _<_, _^_, _*_, true, false, Bool, cond, [], _∷_, _∙_, ap, _≡_, sym, refl, ap₂, subst, decLe, arith, leb, ℤ, _+ℤ_, natAbs, _-ℤ_, +ℤ-comm, le-leb, leb-true, lt-leb, leb-false}
 use native.Mathlib.Nat.{le-of-lt}
-use native.Mathlib.Omega.{arith}
-use lib.Dec.{leb}
-use lib.IntN.{ℤ, natAbs, _+ℤ_, _-ℤ_, +ℤ-comm}
-use borrow.Author.Tests.{leb-true, leb-false, le-leb, lt-leb}
 use Rattle.theory.specs.declared.Direction.{Direction}
-use Rattle.theory.specs.declared.Direction.the-variants.{NearestEven, NearestAway, TowardZero, Upward, Downward}
+use Rattle.theory.specs.Lists.{all}
 use Rattle.theory.specs.Signed.{roundZ}
+use Rattle.theory.proofs.Tests.{and-made}
 use Rattle.theory.proofs.Round.{Nearest}
 use Rattle.format.specs.declared.Format.{Format}
-use Rattle.format.specs.declared.Refusal.{Refusal}
-use Rattle.format.specs.declared.Refusal.the-variants.{TooLarge}
+use Rattle.format.specs.Given.{Given, gives, refused}
 use Rattle.format.specs.Directions.{isDirection, direction}
 use Rattle.format.specs.Published.{binary32}
+use Rattle.format.proofs.GivenLaws.{gives-same, gives-not-refused}
 use Rattle.number.specs.declared.Number.{Number}
-use Rattle.number.specs.declared.Answer.{Answer}
-use Rattle.number.specs.declared.Answer.the-variants as answer
-use Rattle.number.specs.declared.Ordered.the-variants.{Less, Equal, Greater}
+use Rattle.number.specs.declared.Ordering.the-variants.{Less, Equal, Greater}
 use Rattle.number.specs.Numbers.{member, magnitude, value, greatest}
 use Rattle.number.specs.Order.{orderN}
 use Rattle.number.proofs.Comparison.{size-less-says, size-equal-says, size-greater-says}
 use Rattle.arithmetic.specs.Operations.{roundedZ, roundedSum}
 use Rattle.fast_two_sum.specs.declared.Steps.{Steps}
-use Rattle.fast_two_sum.specs.declared.StepsAnswer.{StepsAnswer}
-use Rattle.fast_two_sum.specs.declared.StepsAnswer.the-variants as three
 use Rattle.fast_two_sum.specs.Triples.{Summands}
 use Rattle.fast_two_sum.specs.Calls.{threeSteps, fastTwoSum}
 use Rattle.fast_two_sum.proofs.Bounds.{bound, value-size}
-use Rattle.fast_two_sum.proofs.Entered.{Directed}
-use Rattle.fast_two_sum.proofs.Demand.{Hands, passes, sum-cases, nearest-sum-exact}
-use Rattle.binary32.specs.declared.Pattern.the-variants as pattern
+use Rattle.fast_two_sum.specs.Outcomes as demand
+use Rattle.fast_two_sum.specs.Outcomes.{SumOutcome}
+use Rattle.fast_two_sum.proofs.Demand.{passes, steps-outcome, nearest-sum-exact}
 use Rattle.binary32.specs.Patterns.{finite, patternValue, numberRead, patternOf, answerWritten}
 use Rattle.binary32.proofs.Fields.{binary32-limits}
 use Rattle.binary32.proofs.RoundTrips.{Reads, reads, read-made, read-member, written-read}
@@ -45,25 +34,10 @@ use Rattle.boundaries.specs.declared.StepAnswer.the-variants as step
 use Rattle.boundaries.specs.Sums.{threeSum, stepWritten, stripAdded}
 use Rattle.boundaries.specs.Steps.{firstStep}
 
--- ---- directions
-record Numbered (d : Direction) : Type 0 where
-  number : ℕ
-  known : isDirection number ≡ true
-  is : direction number ≡ d
-
--- each direction has a number
-numbered : (d : Direction) → Numbered d
-unfolding isDirection direction
-numbered NearestEven = record { number = 0; known = refl; is = refl }
-numbered NearestAway = record { number = 1; known = refl; is = refl }
-numbered TowardZero = record { number = 2; known = refl; is = refl }
-numbered Upward = record { number = 3; known = refl; is = refl }
-numbered Downward = record { number = 4; known = refl; is = refl }
-
 -- ---- two numbers
 -- three steps from two numbers whose exact sum is v gave x and y
 record Triple (d : Direction) (v : ℤ) (t : Steps) : Type 0 where
-  first : roundedZ binary32 d v ≡ answer.Value (t .x)
+  first : roundedZ binary32 d v ≡ gives (t .x)
   x-is : value binary32 (t .x) ≡ roundZ 2 24 d v 1
   x-number : member binary32 (t .x) ≡ true
   y-number : member binary32 (t .y) ≡ true
@@ -74,40 +48,26 @@ record Triple (d : Direction) (v : ℤ) (t : Steps) : Type 0 where
 abbrev pub TooMuch : Direction → ℤ → Type 0
 TooMuch d v = greatest binary32 < natAbs (roundZ 2 24 d v 1)
 
-data Steps-outcome (d : Direction) (v : ℤ) : StepsAnswer → Type 0 where
-  triple : {t : Steps} → Triple d v t → Steps-outcome d v (three.Triple t)
-  too-large : roundedZ binary32 d v ≡ answer.Refused TooLarge → TooMuch d v → Steps-outcome d v (three.Refused TooLarge)
+data Steps-outcome (d : Direction) (v : ℤ) : Given Steps → Type 0 where
+  triple : {t : Steps} → Triple d v t → Steps-outcome d v (gives t)
+  too-large : roundedZ binary32 d v ≡ refused 5 → TooMuch d v → Steps-outcome d v (refused 5)
 
-module _ (n : ℕ) (h : isDirection n ≡ true) {a b : Number} (s : Summands binary32 a b) where
-  abbrev known : Directed n n n
-  known = record { first = h; second = h; third = h }
-
-  abbrev sum : ℤ
-  sum = value binary32 a +ℤ value binary32 b
-
-  handed : (t : Steps) → Hands binary32-limits s n n n known t → Steps-outcome (direction n) sum (fastTwoSum binary32 n n n a b)
-  handed t g =
-      subst (Steps-outcome (direction n) sum) (sym (g .is))
-      (triple (record {
-        first = g .first;
-        x-is = g .rounded .x-is;
-        x-number = g .triple .x-number;
-        y-number = g .triple .y-number;
-        within = bound s (g .triple) .by-x;
-        exact = λ near. nearest-sum-exact binary32-limits s n n n known near t (g .rounded);
-      }))
-
-  -- what demand 3 says of our own sum
-  by-demand : Steps-outcome (direction n) sum (threeSteps binary32 (direction n) (direction n) (direction n) a b)
-  by-demand =
-      subst (Steps-outcome (direction n) sum) (passes binary32-limits s n n n known)
-      (⊎-elim (λ g. handed (g .0) (g .1)) (λ g. subst (Steps-outcome (direction n) sum) (sym (g .is)) (too-large (g .first) (g .too-large)))
-      (sum-cases binary32-limits s n n n known))
-
+-- what demand 3 says of our own sum
 in-order : (d : Direction) {a b : Number} → Summands binary32 a b → Steps-outcome d (value binary32 a +ℤ value binary32 b) (threeSteps binary32 d d d a b)
-in-order d {a} {b} s =
-    let n = numbered d in
-    subst (λ (e : Direction). Steps-outcome e (value binary32 a +ℤ value binary32 b) (threeSteps binary32 e e e a b)) (n .is) (by-demand (n .number) (n .known) s)
+in-order d {a} {b} s = by (steps-outcome binary32-limits s d d d)
+  where
+    by : {g : Given Steps} → SumOutcome binary32 d d d a b g → Steps-outcome d (value binary32 a +ℤ value binary32 b) g
+    by (demand.triple t r e) =
+        triple
+        (record {
+          first = e;
+          x-is = r .x-is .value;
+          x-number = r .x-is .member;
+          y-number = r .y-is .member;
+          within = bound s t .by-x;
+          exact = λ near. nearest-sum-exact binary32-limits s d d d near r;
+        })
+    by (demand.too-large l e) = too-large e l
 
 -- the order by the magnitudes
 module _ (d : Direction) (x s : Number) where
@@ -143,6 +103,10 @@ module _ (d : Direction) (x s : Number) {f : Format} (e : f ≡ binary32) where
   pub greater-kept : orderN (magnitude f x) (magnitude f s) ≡ Greater → threeSteps f d d d x s ≡ threeSum d x s
   greater-kept h = rw e (order-first d x s (le-of-lt (size-greater-says (rw e at h))))
 
+three-times : (d : ℕ) → isDirection d ≡ true → all isDirection (d ∷ d ∷ d ∷ []) ≡ true
+unfolding all
+three-times d h = and-made h (and-made h (and-made h refl))
+
 -- a step is what the call fast_two_sum answers, in binary32 and in one direction
 pub is-fast-two-sum : (d : ℕ) → isDirection d ≡ true → (x s : Number) → member binary32 x ≡ true → member binary32 s ≡ true
     → threeSum (direction d) x s ≡ cond (leb (magnitude binary32 s) (magnitude binary32 x)) (fastTwoSum binary32 d d d x s) (fastTwoSum binary32 d d d s x)
@@ -153,12 +117,12 @@ is-fast-two-sum d h x s i j = by (leb (magnitude binary32 s) (magnitude binary32
         → cond t (threeSteps binary32 (direction d) (direction d) (direction d) x s) (threeSteps binary32 (direction d) (direction d) (direction d) s x)
         ≡ cond t (fastTwoSum binary32 d d d x s) (fastTwoSum binary32 d d d s x)
     by true e =
-        sym (passes binary32-limits (record { base = refl; digits = omega arith; a-number = i; b-number = j; order = leb-true _ _ e }) d d d (record { first = h; second = h; third = h }))
+        sym (passes binary32-limits (record { base = refl; digits = omega arith; a-number = i; b-number = j; order = leb-true _ _ e }) d d d (three-times d h))
     by false e =
         sym
         (passes binary32-limits
         (record { base = refl; digits = omega arith; a-number = j; b-number = i; order = omega (arith, leb-false (magnitude binary32 s) (magnitude binary32 x) e) }) d d d
-        (record { first = h; second = h; third = h }))
+        (three-times d h))
 
 -- ---- two patterns
 finite-member : (n : ℕ) → finite n ≡ true → member binary32 (numberRead n) ≡ true
@@ -183,7 +147,7 @@ abbrev pub offBy : (x s : ℕ) (t : Step) → ℕ
 offBy x s t = natAbs (patternValue (t .x) +ℤ patternValue (t .y) -ℤ pairSum x s)
 
 pub record Stepped (d : Direction) (x s : ℕ) (t : Step) : Type 0 where
-  pub first : firstStep d x s ≡ pattern.Written (t .x)
+  pub first : firstStep d x s ≡ gives (t .x)
   pub x-is : patternValue (t .x) ≡ roundZ 2 24 d (pairSum x s) 1
   pub x-finite : finite (t .x) ≡ true
   pub y-finite : finite (t .y) ≡ true
@@ -193,7 +157,7 @@ pub record Stepped (d : Direction) (x s : ℕ) (t : Step) : Type 0 where
 -- a step of two finite patterns is added, or its first sum is too large
 pub data Outcome (d : Direction) (x s : ℕ) : StepAnswer → Type 0 where
   added : {t : Step} → Stepped d x s t → Outcome d x s (step.Added t)
-  too-large : firstStep d x s ≡ pattern.Refused TooLarge → TooMuch d (pairSum x s) → Outcome d x s step.TooLarge
+  too-large : firstStep d x s ≡ refused 5 → TooMuch d (pairSum x s) → Outcome d x s step.TooLarge
 
 module _ (d : Direction) (x s : ℕ) (i : finite x ≡ true) (j : finite s ≡ true) where
   same-sum : value binary32 (numberRead x) +ℤ value binary32 (numberRead s) ≡ pairSum x s
@@ -226,7 +190,7 @@ module _ (d : Direction) (x s : ℕ) (i : finite x ≡ true) (j : finite s ≡ t
       (subst (λ (v : ℤ). Steps-outcome d v (threeSum d (numberRead x) (numberRead s))) same-sum
       (sum-outcome d (numberRead x) (numberRead s) (finite-member x i) (finite-member s j)))
     where
-      by : (p : StepsAnswer) → Steps-outcome d (pairSum x s) p → Outcome d x s (stepWritten p)
+      by : (p : Given Steps) → Steps-outcome d (pairSum x s) p → Outcome d x s (stepWritten p)
       by p (triple g) = added (written-step g first-is)
       by p (too-large e l) = too-large (first-is ∙ ap answerWritten e) l
 
@@ -235,19 +199,19 @@ pub read-number : (n : ℕ) {z : Number} → z ≡ numberRead n → finite n ≡
 read-number n e h = rw e (finite-member n h)
 
 -- where there is a triple, x and y are in the format
-pub triple-members : (d : Direction) (x s : Number) → member binary32 x ≡ true → member binary32 s ≡ true → {t : Steps} → threeSum d x s ≡ three.Triple t
+pub triple-members : (d : Direction) (x s : Number) → member binary32 x ≡ true → member binary32 s ≡ true → {t : Steps} → threeSum d x s ≡ gives t
     → (member binary32 (t .x) ≡ true) × (member binary32 (t .y) ≡ true)
 triple-members d x s i j {t} e = by (threeSum d x s) (sum-outcome d x s i j) e
   where
-    by : (p : StepsAnswer) → Steps-outcome d (value binary32 x +ℤ value binary32 s) p → p ≡ three.Triple t → (member binary32 (t .x) ≡ true) × (member binary32 (t .y) ≡ true)
-    by p (triple {t = r} g) e = let same : r ≡ t = cc in subst (λ (u : Steps). (member binary32 (u .x) ≡ true) × (member binary32 (u .y) ≡ true)) same (g .x-number, g .y-number)
-    by p (too-large e l) k = absurd (let o : _≡_ {A = ℕ} 0 1 = cc in omega arith)
+    by : (p : Given Steps) → Steps-outcome d (value binary32 x +ℤ value binary32 s) p → p ≡ gives t → (member binary32 (t .x) ≡ true) × (member binary32 (t .y) ≡ true)
+    by p (triple {t = r} g) e = let same : r ≡ t = gives-same e in subst (λ (u : Steps). (member binary32 (u .x) ≡ true) × (member binary32 (u .y) ≡ true)) same (g .x-number, g .y-number)
+    by p (too-large e l) k = absurd (gives-not-refused (sym k))
 
-pub sum-written : (d : Direction) (x s : ℕ) {a b : Number} {r : StepsAnswer} → a ≡ numberRead x → b ≡ numberRead s → r ≡ threeSum d a b → stepWritten r ≡ stripAdded d x s
+pub sum-written : (d : Direction) (x s : ℕ) {a b : Number} {r : Given Steps} → a ≡ numberRead x → b ≡ numberRead s → r ≡ threeSum d a b → stepWritten r ≡ stripAdded d x s
 unfolding stripAdded
 sum-written d x s i j e = ap stepWritten (e ∙ ap₂ (threeSum d) i j)
 
-pub first-written : (d : Direction) (x s : ℕ) {a b : Number} {f : Format} {r : Answer} → f ≡ binary32 → a ≡ numberRead x → b ≡ numberRead s → r ≡ roundedSum f d a b
+pub first-written : (d : Direction) (x s : ℕ) {a b : Number} {f : Format} {r : Given Number} → f ≡ binary32 → a ≡ numberRead x → b ≡ numberRead s → r ≡ roundedSum f d a b
     → answerWritten r ≡ firstStep d x s
 unfolding firstStep
 first-written d x s k i j e = rw (e, k, i, j)
@@ -262,19 +226,18 @@ module _ (d : Direction) (x s : ℕ) (i : finite x ≡ true) (j : finite s ≡ t
       by p (too-large e l) k = absurd (let o : _≡_ {A = ℕ} 0 1 = cc in omega arith)
 
   -- the first step's x is that of the step
-  pub first-added : {n : ℕ} → firstStep d x s ≡ pattern.Written n → (t : Step) × (stripAdded d x s ≡ step.Added t) × (t .x ≡ n) × (finite n ≡ true)
+  pub first-added : {n : ℕ} → firstStep d x s ≡ gives n → (t : Step) × (stripAdded d x s ≡ step.Added t) × (t .x ≡ n) × (finite n ≡ true)
   first-added {n} e = by (stripAdded d x s) refl (outcome d x s i j)
     where
       by : (p : StepAnswer) → stripAdded d x s ≡ p → Outcome d x s p → (t : Step) × (stripAdded d x s ≡ step.Added t) × (t .x ≡ n) × (finite n ≡ true)
       by p k (added {t} g) =
-          let both : pattern.Written (t .x) ≡ pattern.Written n = sym (g .first) ∙ e in
-          let same : t .x ≡ n = cc in
+          let same : t .x ≡ n = gives-same (sym (g .first) ∙ e) in
           (t, k, same, subst (λ (u : ℕ). finite u ≡ true) same (g .x-finite))
-      by p k (too-large f l) = absurd (let both : pattern.Refused TooLarge ≡ pattern.Written n = sym f ∙ e in let o : _≡_ {A = ℕ} 0 1 = cc in omega arith)
+      by p k (too-large f l) = absurd (gives-not-refused (sym e ∙ f))
 
-  pub first-refused : {why : Refusal} → firstStep d x s ≡ pattern.Refused why → stripAdded d x s ≡ step.TooLarge
-  first-refused {why} e = by (stripAdded d x s) (outcome d x s i j)
+  pub first-refused : {k : ℕ} → firstStep d x s ≡ refused k → stripAdded d x s ≡ step.TooLarge
+  first-refused e = by (stripAdded d x s) (outcome d x s i j)
     where
       by : (p : StepAnswer) → Outcome d x s p → p ≡ step.TooLarge
-      by p (added {t} g) = absurd (let both : pattern.Written (t .x) ≡ pattern.Refused why = sym (g .first) ∙ e in let o : _≡_ {A = ℕ} 0 1 = cc in omega arith)
+      by p (added {t} g) = absurd (gives-not-refused (sym (g .first) ∙ e))
       by p (too-large f l) = refl

@@ -7,18 +7,18 @@ use lib.Dec.{ltb}
 use lib.ListN.{length}
 use Rattle.theory.specs.Lists.{none}
 use Rattle.theory.specs.declared.Direction.{Direction}
+use Rattle.format.specs.Given.{Given}
 use Rattle.format.specs.Published.{binary32}
 use Rattle.arithmetic.specs.Operations.{roundedSum}
-use Rattle.binary32.specs.declared.Pattern.{Pattern}
 use Rattle.binary32.specs.Patterns.{notFinite, numberRead, answerWritten}
 
 -- the first of the three steps, written as a pattern
-unfoldable pub firstStep : Direction → (x s : ℕ) → Pattern
+unfoldable pub firstStep : Direction → (x s : ℕ) → Given ℕ
 firstStep d x s = answerWritten (roundedSum binary32 d (numberRead x) (numberRead s))
 
 -- the exponent field is below 242, so that the magnitude is below 2 ^ 264
-abbrev pub small : ℕ → Bool
-small n = ltb (n % 2 ^ 31) (242 * 2 ^ 23)
+abbrev pub smallStrip : ℕ → Bool
+smallStrip n = ltb (n % 2 ^ 31) (242 * 2 ^ 23)
 
 -- there are 1 to 4,096 strips, and all are finite
 pub record Summable (strips : List ℕ) : Type 0 where

@@ -13,8 +13,7 @@ use Rattle.format.specs.Directions.{isDirection, direction}
 use Rattle.format.specs.Published.{binary32}
 use Rattle.number.specs.declared.Number.{Number}
 use Rattle.number.specs.Numbers.{magnitude}
-use Rattle.fast_two_sum.specs.declared.StepsAnswer.{StepsAnswer}
-use Rattle.fast_two_sum.specs.declared.StepsAnswer.the-variants as three
+use Rattle.fast_two_sum.specs.declared.Steps.{Steps}
 use Rattle.fast_two_sum.specs.Calls.{threeSteps}
 use Rattle.binary32.specs.Patterns.{notFinite, numberRead, patternOf}
 use Rattle.boundaries.specs.declared.Step.{Step}
@@ -24,20 +23,21 @@ use Rattle.boundaries.specs.declared.BoundaryAnswer.{BoundaryAnswer}
 use Rattle.boundaries.specs.declared.BoundaryAnswer.the-variants as answer
 
 -- what an answer gives, in the papers' numbers
-abbrev pub given : BoundaryAnswer → Given ℕ
-given (answer.Sum sum) = gives sum
-given (answer.Refused why) = refused (refusalNumber why)
-given (answer.RefusedAt why index) = refusedAt (refusalNumber why) index
+abbrev pub boundaryGiven : BoundaryAnswer → Given ℕ
+boundaryGiven (answer.Sum sum) = gives sum
+boundaryGiven (answer.Refused why) = refused (refusalNumber why)
+boundaryGiven (answer.RefusedAt why index) = refusedAt (refusalNumber why) index
 
 -- ---- one step
 -- the three-step sum of x and s with the larger magnitude first, x first at equality, in one direction
-unfoldable pub threeSum : Direction → (x s : Number) → StepsAnswer
+unfoldable pub threeSum : Direction → (x s : Number) → Given Steps
 threeSum d x s = cond (leb (magnitude binary32 s) (magnitude binary32 x)) (threeSteps binary32 d d d x s) (threeSteps binary32 d d d s x)
 
 -- x and y written as patterns
-abbrev pub stepWritten : StepsAnswer → StepAnswer
-stepWritten (three.Triple t) = step.Added (record { x = patternOf (t .x); y = patternOf (t .y) })
-stepWritten (three.Refused why) = step.TooLarge
+abbrev pub stepWritten : Given Steps → StepAnswer
+stepWritten (gives t) = step.Added (record { x = patternOf (t .x); y = patternOf (t .y) })
+stepWritten (refused number) = step.TooLarge
+stepWritten (refusedAt number index) = step.TooLarge
 
 -- the strip s added to the running sum x
 unfoldable pub stripAdded : Direction → (x s : ℕ) → StepAnswer
@@ -76,8 +76,8 @@ firstOf (s ∷ strips) = s
 
 -- ---- the call
 -- refusal 5 with the index of the strip that made x too large, the strips before it having been added; or the last x
-unfoldable pub summed : Direction → (strips : List ℕ) → Given ℕ
-summed d strips =
+unfoldable pub stripsSummed : Direction → (strips : List ℕ) → Given ℕ
+stripsSummed d strips =
     unless (eqb (suc (length (boundarySteps d strips))) (length strips)) (refusedAt 5 (suc (length (boundarySteps d strips))))
     (gives (lastX (firstOf strips) (boundarySteps d strips)))
 
@@ -89,7 +89,7 @@ boundaryAnswer d strips rests =
     (unless (eqb (suc (length rests)) (length strips)) (refused 11)
     (unless (isDirection d) (refused 2)
     (unless (none notFinite strips) (refusedAt 9 (firstWhere notFinite strips))
-    (summed (direction d) strips))))
+    (stripsSummed (direction d) strips))))
 
 -- where a sum is given the new entries, at a refusal the old ones
 abbrev pub writtenWhere : Given ℕ → (new old : List ℕ) → List ℕ

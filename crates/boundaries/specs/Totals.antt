@@ -26,7 +26,7 @@ abbrev pub finiteStep : Step → Bool
 finiteStep t = finite (t .x) and finite (t .y)
 
 -- the total of the last x and all y against the total of the strips
-pub record Bound (d : ℕ) (strips : List ℕ) (sum : ℕ) (rests : List ℕ) : Type 0 where
+pub record TotalBound (d : ℕ) (strips : List ℕ) (sum : ℕ) (rests : List ℕ) : Type 0 where
   pub finite : all finiteStep (boundarySteps (direction d) strips) ≡ true
   -- no farther apart than the sum of all |x| divided by 2 ^ 47
   pub within : 2 ^ 47 * natAbs (patternValue sum +ℤ totalOf rests -ℤ totalOf strips) ≤ sizesOf (boundarySteps (direction d) strips)

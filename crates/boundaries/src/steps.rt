@@ -2,7 +2,7 @@
 use crate::Step;
 use crate::StepAnswer;
 use arithmetic::sum::add;
-use binary32::Pattern;
+use binary32::PatternAnswer;
 use binary32::patterns::pattern_of;
 use binary32::patterns::read_finite;
 use binary32::prepared::prepared_binary32;
@@ -10,28 +10,28 @@ use binary32_arithmetic::entry::write_answer;
 use fast_two_sum::StepsAnswer;
 use fast_two_sum::sum::three_steps;
 use number::Number;
-use number::Ordered;
+use number::Ordering;
 use number::order::compare_magnitudes;
 use theory::Direction;
 ghost use mathlib.Core.Path.{_≡_};
 ghost use mathlib.Core.Bool.{true};
 ghost use Rattle.format.specs.Published.{binary32};
 ghost use Rattle.number.specs.Numbers.{member};
-ghost use Rattle.binary32.specs.Patterns.{finite};
+ghost use Rattle.fast_two_sum.specs.Answers.{stepsGiven};
+ghost use Rattle.binary32.specs.Patterns.{finite, patternGiven};
 ghost use Rattle.boundaries.specs.Sums.{threeSum, stripAdded};
 ghost use Rattle.boundaries.specs.Steps.{firstStep};
 
 // x + s in three steps: the larger magnitude first, x first at equality.
 fn three_sum(direction: Direction, x: Number, s: Number) -> StepsAnswer
     requires { ⌜ (member binary32 x ≡ true) × (member binary32 s ≡ true) ⌝ }
-    ensures { λ r. ⌜ r ≡ threeSum direction x s ⌝ }
+    ensures { λ r. ⌜ stepsGiven r ≡ threeSum direction x s ⌝ }
 {
     let prepared = prepared_binary32();
     match compare_magnitudes(prepared.format, x, s) {
-        Ordered::Less => three_steps(prepared, direction, direction, direction, s, x),
-        Ordered::Equal => three_steps(prepared, direction, direction, direction, x, s),
-        Ordered::Greater => three_steps(prepared, direction, direction, direction, x, s),
-        Ordered::Refused(why) => StepsAnswer::Refused(why),
+        Ordering::Less => three_steps(prepared, direction, direction, direction, s, x),
+        Ordering::Equal => three_steps(prepared, direction, direction, direction, x, s),
+        Ordering::Greater => three_steps(prepared, direction, direction, direction, x, s),
     }
 }
 
@@ -54,9 +54,9 @@ pub fn add_strip(direction: Direction, x: u32, strip: u32) -> StepAnswer
 }
 
 // x of that step alone: the first of the three steps, the only one that may be too large.
-pub fn add_first(direction: Direction, x: u32, strip: u32) -> Pattern
+pub fn add_first(direction: Direction, x: u32, strip: u32) -> PatternAnswer
     requires { ⌜ (finite x ≡ true) × (finite strip ≡ true) ⌝ }
-    ensures { λ r. ⌜ r ≡ firstStep direction x strip ⌝ }
+    ensures { λ r. ⌜ patternGiven r ≡ firstStep direction x strip ⌝ }
 {
     write_answer(add(
         prepared_binary32(),

@@ -5,7 +5,7 @@ use crate::StepAnswer;
 use crate::small::are_small;
 use crate::steps::add_first;
 use crate::steps::add_strip;
-use binary32::Pattern;
+use binary32::PatternAnswer;
 use binary32::finite::first_not_finite;
 use format::Refusal;
 use format::directions::direction_of;
@@ -15,7 +15,7 @@ ghost use mathlib.Core.Path.{_≡_};
 ghost use Prim.Native.Nat.{suc};
 ghost use lib.ListN.{length};
 ghost use Rattle.boundaries.specs.Steps.{Summable};
-ghost use Rattle.boundaries.specs.Sums.{boundarySteps, lastX, restsOf, firstOf, given, boundaryAnswer, boundaryRests};
+ghost use Rattle.boundaries.specs.Sums.{boundarySteps, lastX, restsOf, firstOf, boundaryGiven, boundaryAnswer, boundaryRests};
 
 // The index of the strip that makes the sum too large, or the number of strips. Small strips are not added here.
 fn first_too_large(direction: Direction, strips: &[u32]) -> usize
@@ -28,7 +28,7 @@ fn first_too_large(direction: Direction, strips: &[u32]) -> usize
     let mut x = strips[0];
     let mut i = 1;
     while i < strips.len() {
-        let Pattern::Written(next) = add_first(direction, x, strips[i]) else {
+        let PatternAnswer::Written(next) = add_first(direction, x, strips[i]) else {
             return i;
         };
         x = next;
@@ -60,7 +60,7 @@ fn write_rests(direction: Direction, strips: &[u32], rests: &mut [u32]) -> u32
 // The strips summed from the first on; each y into `rests`. Refuses 18, 11, 2, and 9 and 5 with the index of a strip; a refused
 // call leaves `rests` as it was, since nothing is written before every refusal is ruled out.
 pub fn boundary_sum(direction: u32, strips: &[u32], rests: &mut [u32]) -> BoundaryAnswer
-    ensures answer { λ r. ⌜ given r ≡ boundaryAnswer direction (now (strips .entry)) (now (rests .entry)) ⌝ }
+    ensures answer { λ r. ⌜ boundaryGiven r ≡ boundaryAnswer direction (now (strips .entry)) (now (rests .entry)) ⌝ }
     ensures written { λ _. ⌜ now (rests .exit) ≡ boundaryRests direction (now (strips .entry)) (now (rests .entry)) ⌝ }
 {
     if strips.len() < 1 {
@@ -79,11 +79,11 @@ pub fn boundary_sum(direction: u32, strips: &[u32], rests: &mut [u32]) -> Bounda
     if finite < strips.len() {
         return BoundaryAnswer::RefusedAt(Refusal::NotFinite, finite);
     }
-    let sense = direction_of(direction);
-    let large = first_too_large(sense, strips);
+    let rounding = direction_of(direction);
+    let large = first_too_large(rounding, strips);
     if large != strips.len() {
         return BoundaryAnswer::RefusedAt(Refusal::TooLarge, large);
     }
-    let sum = write_rests(sense, strips, rests);
+    let sum = write_rests(rounding, strips, rests);
     BoundaryAnswer::Sum(sum)
 }

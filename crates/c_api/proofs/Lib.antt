@@ -1,1 +1,2 @@
--- The exports' proofs need no laws of their own.
+-- Laws of the signs that C hands over; the exports need no other.
+pub mod SignLaws

@@ -1,142 +1,144 @@
-// The engine's answers as C sees them. An answer is a struct whose first field is the refusal's number, 0 for none, and whose other
-// fields are zero at a refusal; a verdict or a pattern is a number.
-use binary32::Pattern;
+// The engine's answers as C sees them, and its numbers as C hands them over. An answer is a struct whose first field is the refusal's
+// number, 0 for none, and whose other fields are zero at a refusal; a verdict or a pattern is a number.
+use binary32::PatternAnswer;
 use binary32_arithmetic::SliceAnswer;
 use boundaries::BoundaryAnswer;
-use fast_two_sum::Checked;
-use fast_two_sum::Steps;
+use fast_two_sum::CheckAnswer;
 use fast_two_sum::StepsAnswer;
 use format::Format;
 use format::FormatAnswer;
+use format::Significand;
 use format::Verdict;
 use format::refusals::refusal_number;
-use number::Answer;
 use number::Number;
-use number::Ordered;
+use number::NumberAnswer;
+use number::OrderAnswer;
+use number::Ordering;
 use receivers::Calmer;
 use saved_lines::LineAnswer;
 ghost use mathlib.Core.Path.{_≡_};
-ghost use Rattle.boundaries.specs.Sums as sums;
-ghost use Rattle.c_api.specs.Answers.{verdictOut, numberOut, orderOut, publishedOut, stepsOut, checkOut, patternOut, slicesOut, positionOut, reachOut, rowOut, stretchOut, SmallIndex, boundaryOut};
-ghost use Rattle.saved_lines.specs.Lines.{given};
+ghost use Rattle.format.specs.Given.{verdictGiven, formatGiven};
+ghost use Rattle.number.specs.Answers.{numberGiven, orderGiven};
+ghost use Rattle.fast_two_sum.specs.Answers.{stepsGiven};
+ghost use Rattle.fast_two_sum.specs.Answers.{checkGiven};
+ghost use Rattle.binary32.specs.Patterns.{patternGiven};
+ghost use Rattle.binary32_arithmetic.specs.Slices.{slicesGiven};
+ghost use Rattle.saved_lines.specs.Lines.{lineGiven};
 ghost use Rattle.receivers.specs.Answers.{calmerGiven};
+ghost use Rattle.boundaries.specs.Sums as sums;
+ghost use Rattle.c_api.specs.Answers.{refusalOut, numberIn, numberFor, numberOut, orderNumber, orderOut, publishedOut, tripleOut, checkOut, patternOut, slicesOut, countOut, stretchOut, SmallIndex};
+
+// A number: the sign is 0 for plus, 1 for minus.
+#[repr(C)]
+pub struct CNumber {
+    pub negative: u32,
+    pub significand: Significand,
+    pub exponent: i32,
+}
 
 #[repr(C)]
-pub struct NumberAnswer {
+pub struct NumberOut {
     pub refusal: u32,
-    pub number: Number,
+    pub number: CNumber,
 }
 
 // The order is -1, 0 or 1: less, equal, greater.
 #[repr(C)]
-pub struct OrderAnswer {
+pub struct OrderOut {
     pub refusal: u32,
     pub order: i32,
 }
 
 #[repr(C)]
-pub struct PublishedAnswer {
+pub struct PublishedOut {
     pub refusal: u32,
     pub format: Format,
 }
 
 #[repr(C)]
-pub struct TripleAnswer {
+pub struct TripleOut {
     pub refusal: u32,
-    pub steps: Steps,
+    pub x: CNumber,
+    pub z: CNumber,
+    pub y: CNumber,
 }
 
 // 1 for yes, 0 for no.
 #[repr(C)]
-pub struct CheckAnswer {
+pub struct CheckOut {
     pub refusal: u32,
     pub yes: u32,
 }
 
 // The index of the first refused entry, beside refusals 5 and 9.
 #[repr(C)]
-pub struct SlicesAnswer {
+pub struct SlicesOut {
     pub refusal: u32,
     pub index: u64,
 }
 
-// A position; where `indexed` is 1, `index` is that of the first refused entry.
+// A position, a count or a pattern: the layout of four structs of the header. Where `indexed` is 1, `index` is that of the first refused entry.
 #[repr(C)]
-pub struct PositionAnswer {
+pub struct IndexedOut {
     pub refusal: u32,
-    pub position: u32,
-    pub indexed: u32,
-    pub index: u32,
-}
-
-// How many positions were found.
-#[repr(C)]
-pub struct ReachAnswer {
-    pub refusal: u32,
-    pub found: u32,
-    pub indexed: u32,
-    pub index: u32,
-}
-
-// How many lines were looked at.
-#[repr(C)]
-pub struct RowAnswer {
-    pub refusal: u32,
-    pub looked: u32,
+    pub value: u32,
     pub indexed: u32,
     pub index: u32,
 }
 
 // The log is 1 or 2; indexed is 1 beside refusal 9, which has an index.
 #[repr(C)]
-pub struct StretchAnswer {
+pub struct StretchOut {
     pub refusal: u32,
     pub log: u32,
     pub indexed: u32,
     pub index: u64,
 }
 
-// The sum's pattern; beside refusals 5 and 9 `indexed` is 1 and `index` that of a strip.
-#[repr(C)]
-pub struct BoundarySumAnswer {
-    pub refusal: u32,
-    pub sum: u32,
-    pub indexed: u32,
-    pub index: u32,
-}
-
-pub fn verdict_out(verdict: Verdict) -> u32
-    ensures { λ r. ⌜ r ≡ verdictOut verdict ⌝ }
+// The number that C means. A sign that is neither 0 nor 1 makes one that is in no format.
+pub fn number_in(x: CNumber) -> Number
+    ensures { λ r. ⌜ r ≡ numberIn x ⌝ }
 {
-    match verdict {
-        Verdict::Passed => 0,
-        Verdict::Refused(why) => refusal_number(why),
+    let e = x.exponent;
+    let m = x.significand;
+    let significand = if x.negative <= 1 { m } else { 4294967295 };
+    Number {
+        negative: x.negative == 1,
+        significand: significand,
+        exponent: e,
     }
 }
 
-// The number goes field by field: copied whole it would be read back in other pieces than it was stored in, which costs time.
-pub fn number_out(answer: Answer) -> NumberAnswer
-    ensures { λ r. ⌜ r ≡ numberOut answer ⌝ }
+// A number for C, field by field: copied whole it would be read back in other pieces than it was stored in, which costs time.
+fn number_for(x: Number) -> CNumber
+    ensures { λ r. ⌜ r ≡ numberFor x ⌝ }
+{
+    let negative = if x.negative { 1 } else { 0 };
+    CNumber {
+        negative: negative,
+        significand: x.significand,
+        exponent: x.exponent,
+    }
+}
+
+pub fn number_out(answer: NumberAnswer) -> NumberOut
+    ensures { λ r. ⌜ r ≡ numberOut (numberGiven answer) ⌝ }
 {
     match answer {
-        Answer::Value(x) => {
-            let number = Number {
-                negative: x.negative,
-                significand: x.significand,
-                exponent: x.exponent,
-            };
-            NumberAnswer {
+        NumberAnswer::Value(x) => {
+            let number = number_for(x);
+            NumberOut {
                 refusal: 0,
                 number: number,
             }
         }
-        Answer::Refused(why) => {
-            let none = Number {
-                negative: false,
+        NumberAnswer::Refused(why) => {
+            let none = CNumber {
+                negative: 0,
                 significand: 0,
                 exponent: 0,
             };
-            NumberAnswer {
+            NumberOut {
                 refusal: refusal_number(why),
                 number: none,
             }
@@ -144,34 +146,79 @@ pub fn number_out(answer: Answer) -> NumberAnswer
     }
 }
 
-pub fn order_out(order: Ordered) -> OrderAnswer
-    ensures { λ r. ⌜ r ≡ orderOut order ⌝ }
+pub fn triple_out(answer: StepsAnswer) -> TripleOut
+    ensures { λ r. ⌜ r ≡ tripleOut (stepsGiven answer) ⌝ }
+{
+    match answer {
+        StepsAnswer::Triple(steps) => {
+            let first = steps.x;
+            let second = steps.z;
+            let third = steps.y;
+            let x = number_for(first);
+            let z = number_for(second);
+            let y = number_for(third);
+            TripleOut {
+                refusal: 0,
+                x: x,
+                z: z,
+                y: y,
+            }
+        }
+        StepsAnswer::Refused(why) => {
+            let none = CNumber {
+                negative: 0,
+                significand: 0,
+                exponent: 0,
+            };
+            TripleOut {
+                refusal: refusal_number(why),
+                x: none,
+                z: none,
+                y: none,
+            }
+        }
+    }
+}
+
+pub fn verdict_out(verdict: Verdict) -> u32
+    ensures { λ r. ⌜ r ≡ refusalOut (verdictGiven verdict) ⌝ }
+{
+    match verdict {
+        Verdict::Passed => 0,
+        Verdict::Refused(why) => refusal_number(why),
+    }
+}
+
+fn order_number(order: Ordering) -> i32
+    ensures { λ r. ⌜ r ≡ orderNumber order ⌝ }
 {
     match order {
-        Ordered::Less => OrderAnswer {
+        Ordering::Less => -1,
+        Ordering::Equal => 0,
+        Ordering::Greater => 1,
+    }
+}
+
+pub fn order_out(answer: OrderAnswer) -> OrderOut
+    ensures { λ r. ⌜ r ≡ orderOut (orderGiven answer) ⌝ }
+{
+    match answer {
+        OrderAnswer::Ordered(order) => OrderOut {
             refusal: 0,
-            order: -1,
+            order: order_number(order),
         },
-        Ordered::Equal => OrderAnswer {
-            refusal: 0,
-            order: 0,
-        },
-        Ordered::Greater => OrderAnswer {
-            refusal: 0,
-            order: 1,
-        },
-        Ordered::Refused(why) => OrderAnswer {
+        OrderAnswer::Refused(why) => OrderOut {
             refusal: refusal_number(why),
             order: 0,
         },
     }
 }
 
-pub fn published_out(answer: FormatAnswer) -> PublishedAnswer
-    ensures { λ r. ⌜ r ≡ publishedOut answer ⌝ }
+pub fn published_out(answer: FormatAnswer) -> PublishedOut
+    ensures { λ r. ⌜ r ≡ publishedOut (formatGiven answer) ⌝ }
 {
     match answer {
-        FormatAnswer::Found(f) => PublishedAnswer {
+        FormatAnswer::Found(f) => PublishedOut {
             refusal: 0,
             format: f,
         },
@@ -182,7 +229,7 @@ pub fn published_out(answer: FormatAnswer) -> PublishedAnswer
                 emin: 0,
                 emax: 0,
             };
-            PublishedAnswer {
+            PublishedOut {
                 refusal: refusal_number(why),
                 format: none,
             }
@@ -190,40 +237,13 @@ pub fn published_out(answer: FormatAnswer) -> PublishedAnswer
     }
 }
 
-pub fn steps_out(answer: StepsAnswer) -> TripleAnswer
-    ensures { λ r. ⌜ r ≡ stepsOut answer ⌝ }
+pub fn check_out(answer: CheckAnswer) -> CheckOut
+    ensures { λ r. ⌜ r ≡ checkOut (checkGiven answer) ⌝ }
 {
     match answer {
-        StepsAnswer::Triple(steps) => TripleAnswer {
-            refusal: 0,
-            steps: steps,
-        },
-        StepsAnswer::Refused(why) => {
-            let none = Number {
-                negative: false,
-                significand: 0,
-                exponent: 0,
-            };
-            let steps = Steps {
-                x: none,
-                z: none,
-                y: none,
-            };
-            TripleAnswer {
-                refusal: refusal_number(why),
-                steps: steps,
-            }
-        }
-    }
-}
-
-pub fn check_out(answer: Checked) -> CheckAnswer
-    ensures { λ r. ⌜ r ≡ checkOut answer ⌝ }
-{
-    match answer {
-        Checked::Yes => CheckAnswer { refusal: 0, yes: 1 },
-        Checked::No => CheckAnswer { refusal: 0, yes: 0 },
-        Checked::Refused(why) => CheckAnswer {
+        CheckAnswer::Yes => CheckOut { refusal: 0, yes: 1 },
+        CheckAnswer::No => CheckOut { refusal: 0, yes: 0 },
+        CheckAnswer::Refused(why) => CheckOut {
             refusal: refusal_number(why),
             yes: 0,
         },
@@ -231,132 +251,82 @@ pub fn check_out(answer: Checked) -> CheckAnswer
 }
 
 // The refusal in the upper half, the pattern in the lower.
-pub fn pattern_out(pattern: Pattern) -> u64
-    ensures { λ r. ⌜ r ≡ patternOut pattern ⌝ }
+pub fn pattern_out(pattern: PatternAnswer) -> u64
+    ensures { λ r. ⌜ r ≡ patternOut (patternGiven pattern) ⌝ }
 {
     match pattern {
-        Pattern::Written(n) => n as u64,
-        Pattern::Refused(why) => refusal_number(why) as u64 * 4294967296,
+        PatternAnswer::Written(n) => n as u64,
+        PatternAnswer::Refused(why) => refusal_number(why) as u64 * 4294967296,
     }
 }
 
-pub fn slices_out(answer: SliceAnswer) -> SlicesAnswer
-    ensures { λ r. ⌜ r ≡ slicesOut answer ⌝ }
+pub fn slices_out(answer: SliceAnswer) -> SlicesOut
+    ensures { λ r. ⌜ r ≡ slicesOut (slicesGiven answer) ⌝ }
 {
     match answer {
-        SliceAnswer::Done => SlicesAnswer {
+        SliceAnswer::Done => SlicesOut {
             refusal: 0,
             index: 0,
         },
-        SliceAnswer::Refused(why) => SlicesAnswer {
+        SliceAnswer::Refused(why) => SlicesOut {
             refusal: refusal_number(why),
             index: 0,
         },
-        SliceAnswer::RefusedAt(why, index) => SlicesAnswer {
+        SliceAnswer::RefusedAt(why, index) => SlicesOut {
             refusal: refusal_number(why),
             index: index as u64,
         },
     }
 }
 
-pub fn position_out(answer: LineAnswer) -> PositionAnswer
-    ensures { λ r. ⌜ r ≡ positionOut (given answer) ⌝ }
+pub fn line_out(answer: LineAnswer) -> IndexedOut
+    ensures { λ r. ⌜ r ≡ countOut (lineGiven answer) ⌝ }
 {
     match answer {
-        LineAnswer::Found(position) => PositionAnswer {
+        LineAnswer::Found(value) => IndexedOut {
             refusal: 0,
-            position: position,
+            value: value,
             indexed: 0,
             index: 0,
         },
-        LineAnswer::Refused(why) => PositionAnswer {
+        LineAnswer::Refused(why) => IndexedOut {
             refusal: refusal_number(why),
-            position: 0,
+            value: 0,
             indexed: 0,
             index: 0,
         },
-        LineAnswer::RefusedAt(why, index) => PositionAnswer {
+        LineAnswer::RefusedAt(why, index) => IndexedOut {
             refusal: refusal_number(why),
-            position: 0,
+            value: 0,
             indexed: 1,
             index: index,
         },
     }
 }
 
-pub fn reach_out(answer: LineAnswer) -> ReachAnswer
-    ensures { λ r. ⌜ r ≡ reachOut (given answer) ⌝ }
-{
-    match answer {
-        LineAnswer::Found(found) => ReachAnswer {
-            refusal: 0,
-            found: found,
-            indexed: 0,
-            index: 0,
-        },
-        LineAnswer::Refused(why) => ReachAnswer {
-            refusal: refusal_number(why),
-            found: 0,
-            indexed: 0,
-            index: 0,
-        },
-        LineAnswer::RefusedAt(why, index) => ReachAnswer {
-            refusal: refusal_number(why),
-            found: 0,
-            indexed: 1,
-            index: index,
-        }
-    }
-}
-
-pub fn row_out(answer: LineAnswer) -> RowAnswer
-    ensures { λ r. ⌜ r ≡ rowOut (given answer) ⌝ }
-{
-    match answer {
-        LineAnswer::Found(looked) => RowAnswer {
-            refusal: 0,
-            looked: looked,
-            indexed: 0,
-            index: 0,
-        },
-        LineAnswer::Refused(why) => RowAnswer {
-            refusal: refusal_number(why),
-            looked: 0,
-            indexed: 0,
-            index: 0,
-        },
-        LineAnswer::RefusedAt(why, index) => RowAnswer {
-            refusal: refusal_number(why),
-            looked: 0,
-            indexed: 1,
-            index: index,
-        },
-    }
-}
-
-pub fn stretch_out(answer: Calmer) -> StretchAnswer
+pub fn stretch_out(answer: Calmer) -> StretchOut
     ensures { λ r. ⌜ r ≡ stretchOut (calmerGiven answer) ⌝ }
 {
     match answer {
-        Calmer::First => StretchAnswer {
+        Calmer::First => StretchOut {
             refusal: 0,
             log: 1,
             indexed: 0,
             index: 0,
         },
-        Calmer::Second => StretchAnswer {
+        Calmer::Second => StretchOut {
             refusal: 0,
             log: 2,
             indexed: 0,
             index: 0,
         },
-        Calmer::Refused(why) => StretchAnswer {
+        Calmer::Refused(why) => StretchOut {
             refusal: refusal_number(why),
             log: 0,
             indexed: 0,
             index: 0,
         },
-        Calmer::RefusedAt(why, at) => StretchAnswer {
+        Calmer::RefusedAt(why, at) => StretchOut {
             refusal: refusal_number(why),
             log: 0,
             indexed: 1,
@@ -365,26 +335,26 @@ pub fn stretch_out(answer: Calmer) -> StretchAnswer
     }
 }
 
-pub fn boundary_out(answer: BoundaryAnswer) -> BoundarySumAnswer
-    requires { ⌜ SmallIndex (sums.given answer) ⌝ }
-    ensures { λ r. ⌜ r ≡ boundaryOut (sums.given answer) ⌝ }
+pub fn boundary_out(answer: BoundaryAnswer) -> IndexedOut
+    requires { ⌜ SmallIndex (sums.boundaryGiven answer) ⌝ }
+    ensures { λ r. ⌜ r ≡ countOut (sums.boundaryGiven answer) ⌝ }
 {
     match answer {
-        BoundaryAnswer::Sum(sum) => BoundarySumAnswer {
+        BoundaryAnswer::Sum(sum) => IndexedOut {
             refusal: 0,
-            sum: sum,
+            value: sum,
             indexed: 0,
             index: 0,
         },
-        BoundaryAnswer::Refused(why) => BoundarySumAnswer {
+        BoundaryAnswer::Refused(why) => IndexedOut {
             refusal: refusal_number(why),
-            sum: 0,
+            value: 0,
             indexed: 0,
             index: 0,
         },
-        BoundaryAnswer::RefusedAt(why, index) => BoundarySumAnswer {
+        BoundaryAnswer::RefusedAt(why, index) => IndexedOut {
             refusal: refusal_number(why),
-            sum: 0,
+            value: 0,
             indexed: 1,
             index: index as u32,
         },

@@ -1,5 +1,5 @@
 // The calmer of two logs in a stretch, for C, where no part of a slice can be handed back.
-use crate::answers::StretchAnswer;
+use crate::answers::StretchOut;
 use crate::answers::stretch_out;
 use receivers::stretch::calmer_log;
 ghost use mathlib.Core.Path.{_≡_};
@@ -13,7 +13,7 @@ pub extern "C" fn zurkeb_calmer_stretch(
     second: &[u32],
     start: usize,
     length: usize,
-) -> StretchAnswer
+) -> StretchOut
     ensures { λ r. ⌜ r ≡ stretchOut (calmerLog (now (first .entry)) (now (second .entry)) start length) ⌝ }
 {
     stretch_out(calmer_log(first, second, start, length))

@@ -1,7 +1,9 @@
 // Formats, numbers, places, neighbours and operations, for C.
-use crate::answers::NumberAnswer;
-use crate::answers::OrderAnswer;
-use crate::answers::PublishedAnswer;
+use crate::answers::CNumber;
+use crate::answers::NumberOut;
+use crate::answers::OrderOut;
+use crate::answers::PublishedOut;
+use crate::answers::number_in;
 use crate::answers::number_out;
 use crate::answers::order_out;
 use crate::answers::published_out;
@@ -14,8 +16,7 @@ use arithmetic::sum::sum;
 use format::Format;
 use format::admission::check_format;
 use format::published::published;
-use number::Number;
-use number::entry::check_number;
+use number::checks::check_number;
 use number::order::compare;
 use number::signs::magnitude;
 use number::signs::negate;
@@ -27,26 +28,27 @@ use units::places::uls;
 ghost use mathlib.Core.Path.{_≡_};
 ghost use mathlib.Core.List.{[], _∷_};
 ghost use Rattle.format.specs.Formats.{formatChecked};
+ghost use Rattle.format.specs.Given.{gives};
 ghost use Rattle.format.specs.Published.{publishedFormat};
-ghost use Rattle.number.specs.Entry.{entry};
+ghost use Rattle.number.specs.Checks.{checked};
 ghost use Rattle.number.specs.Order.{compared};
 ghost use Rattle.number.specs.Signs.{negated, unsigned};
 ghost use Rattle.units.specs.Places.{firstPlace, lastPlace, leastPlace};
 ghost use Rattle.units.specs.Neighbours.{predecessorOf, successorOf};
 ghost use Rattle.arithmetic.specs.Operations.{summed, subtracted, multiplied, divided, fractioned};
-ghost use Rattle.c_api.specs.Answers.{numberOut, orderOut, publishedOut, verdictOut};
+ghost use Rattle.c_api.specs.Answers.{refusalOut, numberIn, numberOut, orderOut, publishedOut};
 
 // 0 if the format is admitted, else 1.
 #[no_mangle]
 pub extern "C" fn zurkeb_check_format(format: Format) -> u32
-    ensures { λ r. ⌜ r ≡ verdictOut (formatChecked format) ⌝ }
+    ensures { λ r. ⌜ r ≡ refusalOut (formatChecked format) ⌝ }
 {
     verdict_out(check_format(format))
 }
 
 // The published format with this number. Refuses 10.
 #[no_mangle]
-pub extern "C" fn zurkeb_published(number: u32) -> PublishedAnswer
+pub extern "C" fn zurkeb_published(number: u32) -> PublishedOut
     ensures { λ r. ⌜ r ≡ publishedOut (publishedFormat number) ⌝ }
 {
     published_out(published(number))
@@ -54,82 +56,82 @@ pub extern "C" fn zurkeb_published(number: u32) -> PublishedAnswer
 
 // 0 if the number is in the format, else 1 or 3.
 #[no_mangle]
-pub extern "C" fn zurkeb_check_number(format: Format, x: Number) -> u32
-    ensures { λ r. ⌜ r ≡ verdictOut (entry format [] (x ∷ [])) ⌝ }
+pub extern "C" fn zurkeb_check_number(format: Format, x: CNumber) -> u32
+    ensures { λ r. ⌜ r ≡ refusalOut (checked format [] (numberIn x ∷ []) (gives (tt {0}))) ⌝ }
 {
-    verdict_out(check_number(format, x))
+    verdict_out(check_number(format, number_in(x)))
 }
 
 // The order of two numbers. Refuses 1, 3.
 #[no_mangle]
-pub extern "C" fn zurkeb_compare(format: Format, a: Number, b: Number) -> OrderAnswer
-    ensures { λ r. ⌜ r ≡ orderOut (compared format a b) ⌝ }
+pub extern "C" fn zurkeb_compare(format: Format, a: CNumber, b: CNumber) -> OrderOut
+    ensures { λ r. ⌜ r ≡ orderOut (compared format (numberIn a) (numberIn b)) ⌝ }
 {
-    order_out(compare(format, a, b))
+    order_out(compare(format, number_in(a), number_in(b)))
 }
 
 // -x. Refuses 1, 3.
 #[no_mangle]
-pub extern "C" fn zurkeb_negate(format: Format, x: Number) -> NumberAnswer
-    ensures { λ r. ⌜ r ≡ numberOut (negated format x) ⌝ }
+pub extern "C" fn zurkeb_negate(format: Format, x: CNumber) -> NumberOut
+    ensures { λ r. ⌜ r ≡ numberOut (negated format (numberIn x)) ⌝ }
 {
-    number_out(negate(format, x))
+    number_out(negate(format, number_in(x)))
 }
 
 // |x|. Refuses 1, 3.
 #[no_mangle]
-pub extern "C" fn zurkeb_magnitude(format: Format, x: Number) -> NumberAnswer
-    ensures { λ r. ⌜ r ≡ numberOut (unsigned format x) ⌝ }
+pub extern "C" fn zurkeb_magnitude(format: Format, x: CNumber) -> NumberOut
+    ensures { λ r. ⌜ r ≡ numberOut (unsigned format (numberIn x)) ⌝ }
 {
-    number_out(magnitude(format, x))
+    number_out(magnitude(format, number_in(x)))
 }
 
 // The first place. Refuses 1, 3.
 #[no_mangle]
-pub extern "C" fn zurkeb_ufp(format: Format, x: Number) -> NumberAnswer
-    ensures { λ r. ⌜ r ≡ numberOut (firstPlace format x) ⌝ }
+pub extern "C" fn zurkeb_ufp(format: Format, x: CNumber) -> NumberOut
+    ensures { λ r. ⌜ r ≡ numberOut (firstPlace format (numberIn x)) ⌝ }
 {
-    number_out(ufp(format, x))
+    number_out(ufp(format, number_in(x)))
 }
 
 // The last place. Refuses 1, 3.
 #[no_mangle]
-pub extern "C" fn zurkeb_ulp(format: Format, x: Number) -> NumberAnswer
-    ensures { λ r. ⌜ r ≡ numberOut (lastPlace format x) ⌝ }
+pub extern "C" fn zurkeb_ulp(format: Format, x: CNumber) -> NumberOut
+    ensures { λ r. ⌜ r ≡ numberOut (lastPlace format (numberIn x)) ⌝ }
 {
-    number_out(ulp(format, x))
+    number_out(ulp(format, number_in(x)))
 }
 
 // The place of the least nonzero digit. Refuses 1, 3.
 #[no_mangle]
-pub extern "C" fn zurkeb_uls(format: Format, x: Number) -> NumberAnswer
-    ensures { λ r. ⌜ r ≡ numberOut (leastPlace format x) ⌝ }
+pub extern "C" fn zurkeb_uls(format: Format, x: CNumber) -> NumberOut
+    ensures { λ r. ⌜ r ≡ numberOut (leastPlace format (numberIn x)) ⌝ }
 {
-    number_out(uls(format, x))
+    number_out(uls(format, number_in(x)))
 }
 
 // The greatest number below x. Refuses 1, 3, 5.
 #[no_mangle]
-pub extern "C" fn zurkeb_predecessor(format: Format, x: Number) -> NumberAnswer
-    ensures { λ r. ⌜ r ≡ numberOut (predecessorOf format x) ⌝ }
+pub extern "C" fn zurkeb_predecessor(format: Format, x: CNumber) -> NumberOut
+    ensures { λ r. ⌜ r ≡ numberOut (predecessorOf format (numberIn x)) ⌝ }
 {
-    number_out(predecessor(format, x))
+    number_out(predecessor(format, number_in(x)))
 }
 
 // The least number above x. Refuses 1, 3, 5.
 #[no_mangle]
-pub extern "C" fn zurkeb_successor(format: Format, x: Number) -> NumberAnswer
-    ensures { λ r. ⌜ r ≡ numberOut (successorOf format x) ⌝ }
+pub extern "C" fn zurkeb_successor(format: Format, x: CNumber) -> NumberOut
+    ensures { λ r. ⌜ r ≡ numberOut (successorOf format (numberIn x)) ⌝ }
 {
-    number_out(successor(format, x))
+    number_out(successor(format, number_in(x)))
 }
 
 // a + b. Refuses 1, 2, 3, 5.
 #[no_mangle]
-pub extern "C" fn zurkeb_sum(format: Format, direction: u32, a: Number, b: Number) -> NumberAnswer
-    ensures { λ r. ⌜ r ≡ numberOut (summed format direction a b) ⌝ }
+pub extern "C" fn zurkeb_sum(format: Format, direction: u32, a: CNumber, b: CNumber) -> NumberOut
+    ensures { λ r. ⌜ r ≡ numberOut (summed format direction (numberIn a) (numberIn b)) ⌝ }
 {
-    number_out(sum(format, direction, a, b))
+    number_out(sum(format, direction, number_in(a), number_in(b)))
 }
 
 // a - b. Refuses 1, 2, 3, 5.
@@ -137,12 +139,12 @@ pub extern "C" fn zurkeb_sum(format: Format, direction: u32, a: Number, b: Numbe
 pub extern "C" fn zurkeb_difference(
     format: Format,
     direction: u32,
-    a: Number,
-    b: Number,
-) -> NumberAnswer
-    ensures { λ r. ⌜ r ≡ numberOut (subtracted format direction a b) ⌝ }
+    a: CNumber,
+    b: CNumber,
+) -> NumberOut
+    ensures { λ r. ⌜ r ≡ numberOut (subtracted format direction (numberIn a) (numberIn b)) ⌝ }
 {
-    number_out(difference(format, direction, a, b))
+    number_out(difference(format, direction, number_in(a), number_in(b)))
 }
 
 // a * b. Refuses 1, 2, 3, 5.
@@ -150,12 +152,12 @@ pub extern "C" fn zurkeb_difference(
 pub extern "C" fn zurkeb_product(
     format: Format,
     direction: u32,
-    a: Number,
-    b: Number,
-) -> NumberAnswer
-    ensures { λ r. ⌜ r ≡ numberOut (multiplied format direction a b) ⌝ }
+    a: CNumber,
+    b: CNumber,
+) -> NumberOut
+    ensures { λ r. ⌜ r ≡ numberOut (multiplied format direction (numberIn a) (numberIn b)) ⌝ }
 {
-    number_out(product(format, direction, a, b))
+    number_out(product(format, direction, number_in(a), number_in(b)))
 }
 
 // a / b. Refuses 1, 2, 3, 4, 5.
@@ -163,12 +165,12 @@ pub extern "C" fn zurkeb_product(
 pub extern "C" fn zurkeb_quotient(
     format: Format,
     direction: u32,
-    a: Number,
-    b: Number,
-) -> NumberAnswer
-    ensures { λ r. ⌜ r ≡ numberOut (divided format direction a b) ⌝ }
+    a: CNumber,
+    b: CNumber,
+) -> NumberOut
+    ensures { λ r. ⌜ r ≡ numberOut (divided format direction (numberIn a) (numberIn b)) ⌝ }
 {
-    number_out(quotient(format, direction, a, b))
+    number_out(quotient(format, direction, number_in(a), number_in(b)))
 }
 
 // numerator / denominator. Refuses 1, 2, 4, 5.
@@ -178,7 +180,7 @@ pub extern "C" fn zurkeb_fraction(
     direction: u32,
     numerator: i32,
     denominator: u32,
-) -> NumberAnswer
+) -> NumberOut
     ensures { λ r. ⌜ r ≡ numberOut (fractioned format direction numerator denominator) ⌝ }
 {
     number_out(fraction(format, direction, numerator, denominator))

@@ -1,7 +1,9 @@
 // binary32 patterns and the sum of slices, for C. The pattern calls answer a 64-bit number: the refusal in the upper half, the
 // pattern in the lower.
-use crate::answers::NumberAnswer;
-use crate::answers::SlicesAnswer;
+use crate::answers::CNumber;
+use crate::answers::NumberOut;
+use crate::answers::SlicesOut;
+use crate::answers::number_in;
 use crate::answers::number_out;
 use crate::answers::pattern_out;
 use crate::answers::slices_out;
@@ -12,18 +14,17 @@ use binary32_arithmetic::operations::pattern_product;
 use binary32_arithmetic::operations::pattern_quotient;
 use binary32_arithmetic::operations::pattern_sum;
 use binary32_arithmetic::slices::sum_slices;
-use number::Number;
 ghost use mathlib.Core.Path.{_≡_};
 ghost use Rattle.format.specs.Directions as directions;
 ghost use Rattle.binary32.specs.Patterns.{patternRead, patternWritten};
 ghost use Rattle.binary32_arithmetic.specs.Calls.{patternCall};
 ghost use Rattle.binary32_arithmetic.specs.declared.Operation.the-variants.{Sum, Difference, Product, Quotient};
 ghost use Rattle.binary32_arithmetic.specs.Slices.{sums, slicesAnswer, slicesWritten};
-ghost use Rattle.c_api.specs.Answers.{numberOut, patternOut, slicesOut};
+ghost use Rattle.c_api.specs.Answers.{numberIn, numberOut, patternOut, slicesOut};
 
 // The number of a pattern. Refuses 9.
 #[no_mangle]
-pub extern "C" fn zurkeb_read_pattern(pattern: u32) -> NumberAnswer
+pub extern "C" fn zurkeb_read_pattern(pattern: u32) -> NumberOut
     ensures { λ r. ⌜ r ≡ numberOut (patternRead pattern) ⌝ }
 {
     number_out(read_pattern(pattern))
@@ -31,10 +32,10 @@ pub extern "C" fn zurkeb_read_pattern(pattern: u32) -> NumberAnswer
 
 // The pattern of a number. Refuses 3.
 #[no_mangle]
-pub extern "C" fn zurkeb_write_pattern(x: Number) -> u64
-    ensures { λ r. ⌜ r ≡ patternOut (patternWritten x) ⌝ }
+pub extern "C" fn zurkeb_write_pattern(x: CNumber) -> u64
+    ensures { λ r. ⌜ r ≡ patternOut (patternWritten (numberIn x)) ⌝ }
 {
-    pattern_out(write_pattern(x))
+    pattern_out(write_pattern(number_in(x)))
 }
 
 // a + b. Refuses 2, 9, 5.
@@ -77,7 +78,7 @@ pub extern "C" fn zurkeb_sum_slices(
     b: &[u32],
     out: &mut [u32],
     direction: u32,
-) -> SlicesAnswer
+) -> SlicesOut
     ensures answer { λ r. ⌜ r ≡ slicesOut (slicesAnswer direction (now (a .entry)) (now (b .entry)) (now (out .entry))) ⌝ }
     ensures written { λ _. ⌜ now (out .exit) ≡ slicesWritten (slicesAnswer direction (now (a .entry)) (now (b .entry)) (now (out .entry)))
         (sums (directions.direction direction) (now (a .entry)) (now (b .entry))) (now (out .entry)) ⌝ }

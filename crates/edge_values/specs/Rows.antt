@@ -4,16 +4,13 @@ use mathlib.Core.Bool.{true, false}
 use mathlib.Core.List.{List, [], _∷_}
 use lib.IntN.{ℤ, pos, negsuc}
 use Rattle.format.specs.declared.Format.{Format}
-use Rattle.format.specs.declared.Refusal.the-variants.{TooLarge, PremiseFails}
+use Rattle.format.specs.Given.{Given, gives, refused}
 use Rattle.number.specs.declared.Number.{Number}
-use Rattle.number.specs.declared.Answer.{Answer}
-use Rattle.number.specs.declared.Answer.the-variants as answer
 use Rattle.units.specs.Places.{firstPlace, lastPlace, leastPlace}
 use Rattle.units.specs.Neighbours.{predecessorOf, successorOf}
 use Rattle.arithmetic.specs.Operations.{summed, divided}
 use Rattle.rump.specs.Routes.{ufpTowardZero}
-use Rattle.fast_two_sum.specs.declared.StepsAnswer.{StepsAnswer}
-use Rattle.fast_two_sum.specs.declared.StepsAnswer.the-variants as steps
+use Rattle.fast_two_sum.specs.declared.Steps.{Steps}
 use Rattle.fast_two_sum.specs.Triples.{distance}
 use Rattle.fast_two_sum.specs.Calls.{fastTwoSum}
 
@@ -36,10 +33,13 @@ plus m e = record { negative = false; significand = m; exponent = e }
 abbrev pub minus : (m : ℕ) (e : ℤ) → Number
 minus m e = record { negative = true; significand = m; exponent = e }
 
--- ---- an answer of either kind, and a distance
+abbrev pub triple : (x z y : Number) → Steps
+triple x z y = record { x = x; z = z; y = y }
+
+-- ---- what a call gives, of either kind, or a distance
 pub data Result : Type 0 where
-  one : Answer → Result
-  three : StepsAnswer → Result
+  one : Given Number → Result
+  three : Given Steps → Result
   off : ℕ → Result
 
 -- a call, and what the paper says of it
@@ -47,56 +47,53 @@ pub record Row : Type 0 where
   pub call : Result
   pub paper : Result
 
-abbrev pub gives : Answer → Number → Row
-gives a x = record { call = one a; paper = one (answer.Value x) }
+infix 70 _is_
+abbrev pub _is_ : (call paper : Given Number) → Row
+call is paper = record { call = one call; paper = one paper }
 
-abbrev pub refusedBy5 : Answer → Row
-refusedBy5 a = record { call = one a; paper = one (answer.Refused TooLarge) }
+infix 70 _steps_
+abbrev pub _steps_ : (call paper : Given Steps) → Row
+call steps paper = record { call = three call; paper = three paper }
 
-abbrev pub refusedBy8 : Answer → Row
-refusedBy8 a = record { call = one a; paper = one (answer.Refused PremiseFails) }
-
-abbrev pub triple : StepsAnswer → (x z y : Number) → Row
-triple s x z y = record { call = three s; paper = three (steps.Triple (record { x = x; z = z; y = y })) }
-
-abbrev pub isOff : ℕ → ℕ → Row
-isOff n m = record { call = off n; paper = off m }
+infix 70 _off-by_
+abbrev pub _off-by_ : (call paper : ℕ) → Row
+call off-by paper = record { call = off call; paper = off paper }
 
 -- ---- the table
 unfoldable pub rows : List Row
 rows =
     -- D: 42 has ufp 10, ulp 0.1, uls 1
-    gives (firstPlace D (plus 420 (negsuc 0))) (plus 100 (negsuc 0))
-    ∷ gives (lastPlace D (plus 420 (negsuc 0))) (plus 100 (negsuc 2))
-    ∷ gives (leastPlace D (plus 420 (negsuc 0))) (plus 100 (negsuc 1))
+    firstPlace D (plus 420 (negsuc 0)) is gives (plus 100 (negsuc 0))
+    ∷ lastPlace D (plus 420 (negsuc 0)) is gives (plus 100 (negsuc 2))
+    ∷ leastPlace D (plus 420 (negsuc 0)) is gives (plus 100 (negsuc 1))
     -- D: 1 has predecessor 0.999, successor 1.01
-    ∷ gives (predecessorOf D (plus 100 (negsuc 1))) (plus 999 (negsuc 2))
-    ∷ gives (successorOf D (plus 100 (negsuc 1))) (plus 101 (negsuc 1))
+    ∷ predecessorOf D (plus 100 (negsuc 1)) is gives (plus 999 (negsuc 2))
+    ∷ successorOf D (plus 100 (negsuc 1)) is gives (plus 101 (negsuc 1))
     -- D: 0.001 has predecessor 0.00099
-    ∷ gives (predecessorOf D (plus 100 (negsuc 4))) (plus 99 (negsuc 4))
+    ∷ predecessorOf D (plus 100 (negsuc 4)) is gives (plus 99 (negsuc 4))
     -- D: 0 has successor 0.00001, ufp and ulp 0
-    ∷ gives (successorOf D (plus 0 (negsuc 4))) (plus 1 (negsuc 4))
-    ∷ gives (firstPlace D (plus 0 (negsuc 4))) (plus 0 (negsuc 4))
-    ∷ gives (lastPlace D (plus 0 (negsuc 4))) (plus 0 (negsuc 4))
+    ∷ successorOf D (plus 0 (negsuc 4)) is gives (plus 1 (negsuc 4))
+    ∷ firstPlace D (plus 0 (negsuc 4)) is gives (plus 0 (negsuc 4))
+    ∷ lastPlace D (plus 0 (negsuc 4)) is gives (plus 0 (negsuc 4))
     -- D: 99,900,000 has no successor: 5
-    ∷ refusedBy5 (successorOf D (plus 999 (pos 5)))
+    ∷ successorOf D (plus 999 (pos 5)) is refused 5
     -- D: 99,900,000 + 99 toward zero is 99,900,000; up is 5
-    ∷ gives (summed D 2 (plus 999 (pos 5)) (plus 990 (negsuc 0))) (plus 999 (pos 5))
-    ∷ refusedBy5 (summed D 3 (plus 999 (pos 5)) (plus 990 (negsuc 0)))
+    ∷ summed D 2 (plus 999 (pos 5)) (plus 990 (negsuc 0)) is gives (plus 999 (pos 5))
+    ∷ summed D 3 (plus 999 (pos 5)) (plus 990 (negsuc 0)) is refused 5
     -- D: 99,900,000 + 50,000 in direction 0 is a tie: 5. With 49,900 it is 99,900,000
-    ∷ refusedBy5 (summed D 0 (plus 999 (pos 5)) (plus 500 (pos 2)))
-    ∷ gives (summed D 0 (plus 999 (pos 5)) (plus 499 (pos 2))) (plus 999 (pos 5))
+    ∷ summed D 0 (plus 999 (pos 5)) (plus 500 (pos 2)) is refused 5
+    ∷ summed D 0 (plus 999 (pos 5)) (plus 499 (pos 2)) is gives (plus 999 (pos 5))
     -- β = 2, p = 1: 2 + 1 in direction 0 is 4
-    ∷ gives (summed (nines 2 1) 0 (plus 1 (pos 1)) (plus 1 (pos 0))) (plus 1 (pos 2))
+    ∷ summed (nines 2 1) 0 (plus 1 (pos 1)) (plus 1 (pos 0)) is gives (plus 1 (pos 2))
     -- β = 3, p = 1: 1 ÷ 2 in direction 0 is 2/3, down 1/3
-    ∷ gives (divided (nines 3 1) 0 (plus 1 (pos 0)) (plus 2 (pos 0))) (plus 2 (negsuc 0))
-    ∷ gives (divided (nines 3 1) 4 (plus 1 (pos 0)) (plus 2 (pos 0))) (plus 1 (negsuc 0))
+    ∷ divided (nines 3 1) 0 (plus 1 (pos 0)) (plus 2 (pos 0)) is gives (plus 2 (negsuc 0))
+    ∷ divided (nines 3 1) 4 (plus 1 (pos 0)) (plus 2 (pos 0)) is gives (plus 1 (negsuc 0))
     -- β = 10, p = 3, Emin = -3, Emax = 3: figure 1 gives 1 for 1. With Emin = -2 it is refused, by 8
-    ∷ gives (ufpTowardZero (threes (negsuc 2)) (plus 100 (negsuc 1))) (plus 100 (negsuc 1))
-    ∷ refusedBy8 (ufpTowardZero (threes (negsuc 1)) (plus 100 (negsuc 1)))
+    ∷ ufpTowardZero (threes (negsuc 2)) (plus 100 (negsuc 1)) is gives (plus 100 (negsuc 1))
+    ∷ ufpTowardZero (threes (negsuc 1)) (plus 100 (negsuc 1)) is refused 8
     -- β = 2, p = 3, all up: 4 and 1/16 give 5, 1, -7/8, off by 1/16, which is 32 units of 2 ^ -9; with 1/2: 5, 1, -1/2, not off
-    ∷ triple (fastTwoSum (nines 2 3) 3 3 3 (plus 4 (pos 0)) (plus 4 (negsuc 5))) (plus 5 (pos 0)) (plus 4 (negsuc 1)) (minus 7 (negsuc 2))
-    ∷ isOff (distance (nines 2 3) (plus 4 (pos 0)) (plus 4 (negsuc 5)) (plus 5 (pos 0)) (minus 7 (negsuc 2))) 32
-    ∷ triple (fastTwoSum (nines 2 3) 3 3 3 (plus 4 (pos 0)) (plus 4 (negsuc 2))) (plus 5 (pos 0)) (plus 4 (negsuc 1)) (minus 4 (negsuc 2))
-    ∷ isOff (distance (nines 2 3) (plus 4 (pos 0)) (plus 4 (negsuc 2)) (plus 5 (pos 0)) (minus 4 (negsuc 2))) 0
+    ∷ fastTwoSum (nines 2 3) 3 3 3 (plus 4 (pos 0)) (plus 4 (negsuc 5)) steps gives (triple (plus 5 (pos 0)) (plus 4 (negsuc 1)) (minus 7 (negsuc 2)))
+    ∷ distance (nines 2 3) (plus 4 (pos 0)) (plus 4 (negsuc 5)) (plus 5 (pos 0)) (minus 7 (negsuc 2)) off-by 32
+    ∷ fastTwoSum (nines 2 3) 3 3 3 (plus 4 (pos 0)) (plus 4 (negsuc 2)) steps gives (triple (plus 5 (pos 0)) (plus 4 (negsuc 1)) (minus 4 (negsuc 2)))
+    ∷ distance (nines 2 3) (plus 4 (pos 0)) (plus 4 (negsuc 2)) (plus 5 (pos 0)) (minus 4 (negsuc 2)) off-by 0
     ∷ []

@@ -1,21 +1,14 @@
 -- Demand 3: every triple of two numbers of a binary format is within the bound.
-use Prim.Native.Nat.{ℕ, _^_, _*_, _-_, _≤_, _<_}
-use mathlib.Core.Path.{_≡_, refl, sym, ap, subst, _∙_}
-use mathlib.Core.Bool.{true}
-use mathlib.Core.Logic.{_⊎_, inl, inr, ⊎-elim}
-use native.Mathlib.Omega.{arith}
-use lib.IntN.{ℤ, natAbs, _+ℤ_, _-ℤ_}
-use borrow.Author.Tests.{leb-true, ltb-true, eqb-true}
+use Rattle.theory.proofs.Prelude.{ℕ, _≤_, _<_, _^_, _*_, _-_, true, ⊎-elim, inl, inr, _⊎_, _∙_, ap, _≡_, sym, refl, subst, arith, ℤ, _+ℤ_, natAbs, _-ℤ_, leb-true, eqb-true, ltb-true}
 use Rattle.theory.specs.Place.{Positional}
 use Rattle.theory.specs.Wide.{Wide}
 use Rattle.theory.specs.Signed.{WideZ}
 use Rattle.theory.specs.Units.{ufp, ulp}
 use Rattle.theory.specs.Faithful.{Faithful}
-use Rattle.theory.specs.FastTwoSum as theory
 use Rattle.theory.proofs.Tests.{and-left, and-right, or-cases}
 use Rattle.theory.proofs.Powers.{pow-pos, pow-mono}
 use Rattle.theory.proofs.Integers.{above, below, size-signed, diff-parts, size-parts}
-use Rattle.theory.proofs.FastTwoSum.{triple-close}
+use Rattle.theory.proofs.FastTwoSum.{WideTriple, triple-close}
 use Rattle.format.specs.declared.Format.{Format}
 use Rattle.format.proofs.Signed.{apart}
 use Rattle.number.specs.declared.Number.{Number}
@@ -55,7 +48,7 @@ module _ {f : Format} {a b x z y : Number} (s : Summands f a b) (t : Triple f a 
   ok = record { base = omega arith; digits = omega (arith, s .digits) }
 
   -- the theory's triple, on values
-  on-values : theory.Triple (f .digits) (value f a) (value f b) (value f x) (value f z) (value f y)
+  on-values : WideTriple (f .digits) (value f a) (value f b) (value f x) (value f z) (value f y)
   on-values =
       record {
         a-wide = subst (λ (β : ℕ). WideZ β (f .digits) (value f a)) (s .base) (value-wide f base-least a (s .a-number));
@@ -71,10 +64,8 @@ module _ {f : Format} {a b x z y : Number} (s : Summands f a b) (t : Triple f a 
       let c = triple-close ok on-values in
       record {
         by-sum = c .by-sum;
-        by-x = subst (λ (n : ℕ). 2 ^ (2 * f .digits - 1) * distance f a b x y ≤ n) (value-size f x) (c .by-x);
-        last-place =
-            subst (λ (β : ℕ). magnitude f y ≤ ulp β (f .digits) (magnitude f x)) (sym (s .base))
-            (subst (λ (n : ℕ). n ≤ ulp 2 (f .digits) (magnitude f x)) (value-size f y) (subst (λ (n : ℕ). natAbs (value f y) ≤ ulp 2 (f .digits) n) (value-size f x) (c .last-place)));
+        by-x = rw (← value-size f x) (c .by-x);
+        last-place = subst (λ (β : ℕ). magnitude f y ≤ ulp β (f .digits) (magnitude f x)) (sym (s .base)) (rw (← value-size f y, ← value-size f x) (c .last-place));
         exact = λ h. none _ _ (c .exact (exactly h));
       }
     where
@@ -83,8 +74,4 @@ module _ {f : Format} {a b x z y : Number} (s : Summands f a b) (t : Triple f a 
       exactly (inl e) = inl (value-size f a ∙ e)
       exactly (inr (inl e)) = inr (inl (value-size f b ∙ e))
       exactly (inr (inr h)) =
-          inr
-          (inr
-          (subst (λ (n : ℕ). ufp 2 n ≤ 2 ^ f .digits * ufp 2 (natAbs (value f b))) (sym (value-size f a))
-          (subst (λ (n : ℕ). ufp 2 (magnitude f a) ≤ 2 ^ f .digits * ufp 2 n) (sym (value-size f b))
-          (subst (λ (β : ℕ). ufp β (magnitude f a) ≤ 2 ^ f .digits * ufp β (magnitude f b)) (s .base) h))))
+          inr (inr (rw (value-size f a, value-size f b) (subst (λ (β : ℕ). ufp β (magnitude f a) ≤ 2 ^ f .digits * ufp β (magnitude f b)) (s .base) h)))

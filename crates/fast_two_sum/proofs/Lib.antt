@@ -1,9 +1,6 @@
 -- Demand 3, and laws of the three-step sum and its check.
 pub mod Bounds
 pub mod Order
-pub mod Entered
-pub mod Results
 pub mod Chain
-pub mod CheckEntered
 pub mod Faithfulness
 pub mod Demand

@@ -1,16 +1,16 @@
 // The check: each of three numbers is faithful to its step exactly when it equals the step rounded down or rounded up.
-use crate::Checked;
+use crate::CheckAnswer;
 use crate::entry::check_order;
 use arithmetic::sum::add;
 use format::Format;
 use format::Preparation;
 use format::Prepared;
 use format::Verdict;
-use number::Answer;
 use number::Number;
-use number::Ordered;
-use number::entry::enter_two;
-use number::entry::with_number;
+use number::NumberAnswer;
+use number::Ordering;
+use number::checks::enter_two;
+use number::checks::with_number;
 use number::order::compare_values;
 use number::signs::with_sign;
 use theory::Direction;
@@ -19,9 +19,11 @@ ghost use mathlib.Core.Bool.{true};
 ghost use mathlib.Core.List.{[], _∷_};
 ghost use lib.IntN.{_+ℤ_, _-ℤ_};
 ghost use Rattle.format.specs.Formats.{admitted};
-ghost use Rattle.number.specs.declared.Answer.the-variants.{Value};
+ghost use Rattle.format.specs.Given.{gives};
 ghost use Rattle.number.specs.Numbers.{equalZ, member, value};
-ghost use Rattle.number.specs.Entry.{Usable, entered};
+ghost use Rattle.number.specs.Answers.{numberGiven};
+ghost use Rattle.number.specs.Checks.{Operand, Operands, entered};
+ghost use Rattle.fast_two_sum.specs.Answers.{checkGiven};
 ghost use Rattle.fast_two_sum.specs.Checks.{isResult, isFaithful, isTriple, checkedTriple};
 
 // Have a and b one value?
@@ -30,27 +32,26 @@ fn same_value(format: Format, a: Number, b: Number) -> bool
     ensures { λ r. ⌜ r ≡ equalZ (value format a) (value format b) ⌝ }
 {
     match compare_values(format, a, b) {
-        Ordered::Less => false,
-        Ordered::Equal => true,
-        Ordered::Greater => false,
-        Ordered::Refused(_) => false,
+        Ordering::Less => false,
+        Ordering::Equal => true,
+        Ordering::Greater => false,
     }
 }
 
 // Has x the value that a step gave? A step that is too large gave none.
-fn is_result(format: Format, step: Answer, x: Number) -> bool
-    requires { ⌜ (admitted format ≡ true) × (member format x ≡ true) × ((r : Number) → step ≡ Value r → member format r ≡ true) ⌝ }
-    ensures { λ r. ⌜ r ≡ isResult format step x ⌝ }
+fn is_result(format: Format, step: NumberAnswer, x: Number) -> bool
+    requires { ⌜ (admitted format ≡ true) × (member format x ≡ true) × ((r : Number) → numberGiven step ≡ gives r → member format r ≡ true) ⌝ }
+    ensures { λ r. ⌜ r ≡ isResult format (numberGiven step) x ⌝ }
 {
     match step {
-        Answer::Refused(_) => false,
-        Answer::Value(r) => same_value(format, x, r),
+        NumberAnswer::Refused(_) => false,
+        NumberAnswer::Value(r) => same_value(format, x, r),
     }
 }
 
 // Is x faithful to a + b?
 fn is_faithful_sum(prepared: Prepared, a: Number, b: Number, x: Number) -> bool
-    requires { ⌜ Usable prepared × (member (prepared .format) a ≡ true) × (member (prepared .format) b ≡ true) × (member (prepared .format) x ≡ true) ⌝ }
+    requires { ⌜ Operands prepared a b × Operand prepared x ⌝ }
     ensures { λ r. ⌜ r ≡ isFaithful (prepared .format) (value (prepared .format) a +ℤ value (prepared .format) b) (value (prepared .format) x) ⌝ }
 {
     let down = add(prepared, Direction::Downward, a, b);
@@ -63,7 +64,7 @@ fn is_faithful_sum(prepared: Prepared, a: Number, b: Number, x: Number) -> bool
 
 // Is x faithful to a - b, the sum of a and -b?
 fn is_faithful_difference(prepared: Prepared, a: Number, b: Number, x: Number) -> bool
-    requires { ⌜ Usable prepared × (member (prepared .format) a ≡ true) × (member (prepared .format) b ≡ true) × (member (prepared .format) x ≡ true) ⌝ }
+    requires { ⌜ Operands prepared a b × Operand prepared x ⌝ }
     ensures { λ r. ⌜ r ≡ isFaithful (prepared .format) (value (prepared .format) a -ℤ value (prepared .format) b) (value (prepared .format) x) ⌝ }
 {
     is_faithful_sum(prepared, a, with_sign(b, !b.negative), x)
@@ -79,8 +80,7 @@ fn enter_check(format: Format, a: Number, b: Number, x: Number, z: Number, y: Nu
 
 // Are x, z and y a triple?
 fn is_triple(prepared: Prepared, a: Number, b: Number, x: Number, z: Number, y: Number) -> bool
-    requires { ⌜ Usable prepared × (member (prepared .format) a ≡ true) × (member (prepared .format) b ≡ true)
-        × (member (prepared .format) x ≡ true) × (member (prepared .format) z ≡ true) × (member (prepared .format) y ≡ true) ⌝ }
+    requires { ⌜ Operands prepared a b × Operand prepared x × Operand prepared z × Operand prepared y ⌝ }
     ensures { λ r. ⌜ r ≡ isTriple (prepared .format) a b x z y ⌝ }
 {
     if !is_faithful_sum(prepared, a, b, x) {
@@ -100,18 +100,18 @@ pub fn is_fast_two_sum(
     x: Number,
     z: Number,
     y: Number,
-) -> Checked
-    ensures { λ r. ⌜ r ≡ checkedTriple format a b x z y ⌝ }
+) -> CheckAnswer
+    ensures { λ r. ⌜ checkGiven r ≡ checkedTriple format a b x z y ⌝ }
 {
     match enter_check(format, a, b, x, z, y) {
-        Preparation::Refused(why) => Checked::Refused(why),
+        Preparation::Refused(why) => CheckAnswer::Refused(why),
         Preparation::Ready(prepared) => match check_order(format, a, b) {
-            Verdict::Refused(why) => Checked::Refused(why),
+            Verdict::Refused(why) => CheckAnswer::Refused(why),
             Verdict::Passed => {
                 if is_triple(prepared, a, b, x, z, y) {
-                    return Checked::Yes;
+                    return CheckAnswer::Yes;
                 }
-                Checked::No
+                CheckAnswer::No
             }
         },
     }

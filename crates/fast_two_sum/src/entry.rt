@@ -3,19 +3,19 @@ use format::Format;
 use format::Refusal;
 use format::Verdict;
 use number::Number;
-use number::Ordered;
+use number::Ordering;
 use number::order::compare_magnitudes;
 ghost use mathlib.Core.Path.{_≡_};
 ghost use mathlib.Core.Bool.{true};
 ghost use Rattle.format.specs.Formats.{admitted};
-ghost use Rattle.format.specs.declared.Verdict.the-variants.{Passed, Refused};
+ghost use Rattle.format.specs.Given.{gives, verdictGiven};
 ghost use Rattle.number.specs.Numbers.{member};
-ghost use Rattle.fast_two_sum.specs.Calls.{ordered};
+ghost use Rattle.fast_two_sum.specs.Calls.{orderChecked};
 
 // Refuses 6, 7.
 pub fn check_order(format: Format, a: Number, b: Number) -> Verdict
     requires { ⌜ (admitted format ≡ true) × (member format a ≡ true) × (member format b ≡ true) ⌝ }
-    ensures { λ r. ⌜ r ≡ ordered format a b Refused Passed ⌝ }
+    ensures { λ r. ⌜ verdictGiven r ≡ orderChecked format a b (gives tt) ⌝ }
 {
     if format.base != 2 {
         return Verdict::Refused(Refusal::NotBinary);
@@ -24,9 +24,8 @@ pub fn check_order(format: Format, a: Number, b: Number) -> Verdict
         return Verdict::Refused(Refusal::NotBinary);
     }
     match compare_magnitudes(format, a, b) {
-        Ordered::Less => Verdict::Refused(Refusal::SmallerFirst),
-        Ordered::Equal => Verdict::Passed,
-        Ordered::Greater => Verdict::Passed,
-        Ordered::Refused(why) => Verdict::Refused(why),
+        Ordering::Less => Verdict::Refused(Refusal::SmallerFirst),
+        Ordering::Equal => Verdict::Passed,
+        Ordering::Greater => Verdict::Passed,
     }
 }

@@ -21,7 +21,7 @@ pub enum StepsAnswer {
 }
 
 // Whether three numbers are faithful to the three steps.
-pub enum Checked {
+pub enum CheckAnswer {
     Yes,
     No,
     Refused(Refusal),

@@ -11,19 +11,18 @@ use format::Refusal;
 use format::Verdict;
 use format::admission::prepare;
 use format::directions::direction_of;
-use number::Answer;
 use number::Number;
-use number::entry::with_direction;
-use number::entry::with_number;
+use number::NumberAnswer;
+use number::checks::with_direction;
+use number::checks::with_number;
 use theory::Direction;
 ghost use mathlib.Core.Path.{_≡_};
-ghost use mathlib.Core.Bool.{true};
 ghost use mathlib.Core.List.{[], _∷_};
-ghost use Rattle.number.specs.Numbers.{member};
-ghost use Rattle.number.specs.Entry.{Usable, entered};
-ghost use Rattle.fast_two_sum.specs.Calls.{then, threeSteps, fastTwoSum};
-ghost use Rattle.fast_two_sum.specs.declared.StepsAnswer.the-variants.{Refused};
-ghost use Rattle.format.specs.declared.Refusal.the-variants.{TooLarge};
+ghost use Rattle.format.specs.Given.{refused, _then_};
+ghost use Rattle.number.specs.Answers.{numberGiven};
+ghost use Rattle.number.specs.Checks.{Operands, entered};
+ghost use Rattle.fast_two_sum.specs.Answers.{stepsGiven};
+ghost use Rattle.fast_two_sum.specs.Calls.{threeSteps, fastTwoSum};
 
 // Three directions and two numbers. Refuses 1, 2, 3.
 fn enter_steps(
@@ -51,31 +50,31 @@ pub fn three_steps(
     a: Number,
     b: Number,
 ) -> StepsAnswer
-    requires { ⌜ Usable prepared × (member (prepared .format) a ≡ true) × (member (prepared .format) b ≡ true) ⌝ }
-    ensures { λ r. ⌜ r ≡ threeSteps (prepared .format) first second third a b ⌝ }
+    requires { ⌜ Operands prepared a b ⌝ }
+    ensures { λ r. ⌜ stepsGiven r ≡ threeSteps (prepared .format) first second third a b ⌝ }
 {
     let sum = add(prepared, first, a, b);
-    let Answer::Value(x) = sum else {
+    let NumberAnswer::Value(x) = sum else {
         return refused_step(sum);
     };
     let difference = subtract(prepared, second, x, a);
-    let Answer::Value(z) = difference else {
+    let NumberAnswer::Value(z) = difference else {
         return refused_step(difference);
     };
     let rest = subtract(prepared, third, b, z);
-    let Answer::Value(y) = rest else {
+    let NumberAnswer::Value(y) = rest else {
         return refused_step(rest);
     };
     StepsAnswer::Triple(Steps { x: x, z: z, y: y })
 }
 
 // The refusal of a step.
-fn refused_step(step: Answer) -> StepsAnswer
-    ensures { λ r. ⌜ r ≡ then step (λ x. Refused TooLarge) ⌝ }
+fn refused_step(step: NumberAnswer) -> StepsAnswer
+    ensures { λ r. ⌜ stepsGiven r ≡ numberGiven step then (λ x. refused 5) ⌝ }
 {
     match step {
-        Answer::Refused(why) => StepsAnswer::Refused(why),
-        Answer::Value(_) => StepsAnswer::Refused(Refusal::TooLarge),
+        NumberAnswer::Refused(why) => StepsAnswer::Refused(why),
+        NumberAnswer::Value(_) => StepsAnswer::Refused(Refusal::TooLarge),
     }
 }
 
@@ -88,7 +87,7 @@ pub fn fast_two_sum(
     a: Number,
     b: Number,
 ) -> StepsAnswer
-    ensures { λ r. ⌜ r ≡ fastTwoSum format first second third a b ⌝ }
+    ensures { λ r. ⌜ stepsGiven r ≡ fastTwoSum format first second third a b ⌝ }
 {
     match enter_steps(format, first, second, third, a, b) {
         Preparation::Refused(why) => StepsAnswer::Refused(why),

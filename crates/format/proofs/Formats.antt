@@ -1,13 +1,5 @@
 -- What an admitted format has, as facts on natural numbers that `omega` reads, and how it is made.
-use Prim.Native.Nat.{_+_, _*_, _-_, _^_, _≤_}
-use mathlib.Core.Path.{_≡_, refl, ap, _∙_}
-use mathlib.Core.Bool.{true}
-use native.Mathlib.Omega.{arith}
-use native.Mathlib.Nat.{mul-comm}
-use lib.Dec.{leb}
-use lib.IntN.{ℤ, pos, negsuc, _-ℤ_}
-use lib.Signed.{leZ}
-use borrow.Author.Tests.{leb-true, le-leb}
+use Rattle.theory.proofs.Prelude.{_≤_, _+_, _^_, _*_, _-_, true, _∙_, ap, _≡_, refl, mul-comm, arith, leb, ℤ, pos, _-ℤ_, negsuc, leZ, le-leb, leb-true}
 use Rattle.theory.specs.Tests.{_and_}
 use Rattle.theory.specs.Place.{Positional}
 use Rattle.theory.proofs.Tests.{and-left, and-right, and-made}

@@ -4,3 +4,4 @@ pub mod Squaring
 pub mod Limits
 pub mod Formats
 pub mod PublishedFormats
+pub mod GivenLaws

@@ -1,13 +1,6 @@
 -- The limit of each exponent, by one computed test over all of them: its power is within 2 ^ 31, and that of the next base is not.
-use mathlib.Core.Path.{_≡_, refl, sym, _∙_, subst}
-use mathlib.Core.Bool.{Bool, true, false}
-use mathlib.Core.Logic.{⊎-elim}
-use Prim.Native.Nat.{ℕ, zero, suc, _+_, _-_, _^_, _≤_, _<_}
-use native.Mathlib.Omega.{arith}
-use native.Mathlib.Decide.{ℕ-discrete}
-use native.Mathlib.Nat.{pow-le-pow-left, pow-le-pow-right, not-suc-le-zero, le-trans, lt-of-not-le}
-use lib.Dec.{leb, ltb, eqb}
-use borrow.Author.Tests.{le-leb, lt-leb, leb-true, leb-false, ltb-true, eqb-true}
+use Rattle.theory.proofs.Prelude.{ℕ, _≤_, _<_, _+_, _^_, _-_, suc, zero, true, false, Bool, ⊎-elim, _≡_, sym, refl, subst, ℕ-discrete, le-trans, lt-of-not-le, pow-le-pow-left, arith, eqb, leb, ltb, le-leb, leb-true, lt-leb, leb-false, eqb-true, ltb-true}
+use native.Mathlib.Nat.{pow-le-pow-right, not-suc-le-zero}
 use Rattle.theory.specs.Tests.{_and_, _or_}
 use Rattle.theory.proofs.Tests.{and-left, and-right, or-cases}
 use Rattle.format.specs.Limits.{limit}

@@ -1,15 +1,8 @@
 -- Signed numbers of 32 bits: what a test of order says, as a fact on natural numbers that `omega` reads, and when a result fits.
 -- An integer is its part above 0 less its part below 0.
-use Prim.Native.Nat.{_+_, _^_, _≤_, _<_, min}
-use mathlib.Core.Path.{_≡_, refl, sym, ap, _∙_}
-use mathlib.Core.Bool.{true, false}
-use native.Mathlib.Omega.{arith}
-use lib.IntN.{ℤ, pos, negsuc}
-use lib.Signed.{leZ, ltZ, nonNeg}
-use lib.Dec.{T}
-use borrow.Author.Tests.{ltb-true, ltb-false, leb-true, leb-false, lt-ltb, le-ltb, le-leb}
-use mir.Syntax.{w32}
-use mir.Val.{SFits, ofZ, toZ}
+use Rattle.theory.proofs.Prelude.{_≤_, _<_, _+_, _^_, true, false, _∙_, ap, _≡_, sym, refl, arith, T, ℤ, pos, negsuc, ltZ, leZ, w32, SFits, toZ, ofZ, le-leb, leb-true, leb-false, le-ltb, lt-ltb, ltb-true, ltb-false}
+use Prim.Native.Nat.{min}
+use lib.Signed.{nonNeg}
 use mir.ValLaws.{toZ-ofZ}
 use Rattle.theory.proofs.Integers.{above, below}
 use Rattle.theory.proofs.Tests.{never}

@@ -1,8 +1,6 @@
 -- Powers by repeated squaring, and the shift that is a power of two.
-use mathlib.Core.Path.{_≡_, refl, sym, _∙_, ap}
-use Prim.Native.Nat.{ℕ, zero, suc, _+_, _*_, _/_, _%_, _^_, _≤_, _<_}
-use native.Mathlib.Omega.{arith}
-use native.Mathlib.Nat.{pow-zero, pow-succ', one-le-pow, mul-le-mul-left, mul-le-mul-right}
+use Rattle.theory.proofs.Prelude.{ℕ, _≤_, _<_, _+_, _^_, _*_, suc, zero, _%_, _/_, _∙_, ap, _≡_, sym, refl, mul-le-mul-right, mul-le-mul-left, pow-zero, pow-succ', arith}
+use native.Mathlib.Nat.{one-le-pow}
 use lib.Dec.{lit<}
 use lib.Pow.{shl-exact}
 

@@ -11,9 +11,8 @@ use Rattle.format.specs.declared.Scale.{Scale}
 use Rattle.format.specs.declared.Prepared.{Prepared}
 use Rattle.format.specs.declared.Preparation.{Preparation}
 use Rattle.format.specs.declared.Preparation.the-variants as prepared
-use Rattle.format.specs.declared.Verdict.{Verdict}
-use Rattle.format.specs.declared.Verdict.the-variants as verdict
 use Rattle.format.specs.declared.Refusal.the-variants.{FormatNotAdmitted}
+use Rattle.format.specs.Given.{Given, gives, refused}
 
 -- what no power of an admitted format exceeds
 abbrev pub greatestPower : ℕ
@@ -32,8 +31,8 @@ admitted f =
     and exponentsAdmitted (f .emin) (f .emax)
 
 -- the answer of check_format
-unfoldable pub formatChecked : Format → Verdict
-formatChecked f = unless (admitted f) (verdict.Refused FormatNotAdmitted) verdict.Passed
+unfoldable pub formatChecked : Format → Given Unit
+formatChecked f = unless (admitted f) (refused 1) (gives tt)
 
 -- ---- what the calls work out of a format before all else
 abbrev pub scaleOf : Format → Scale

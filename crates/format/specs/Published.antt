@@ -2,9 +2,7 @@
 use Prim.Native.Nat.{ℕ, zero, suc}
 use lib.IntN.{pos, negsuc}
 use Rattle.format.specs.declared.Format.{Format}
-use Rattle.format.specs.declared.FormatAnswer.{FormatAnswer}
-use Rattle.format.specs.declared.FormatAnswer.the-variants.{Found, Refused}
-use Rattle.format.specs.declared.Refusal.the-variants.{NoSuchFormat}
+use Rattle.format.specs.Given.{Given, gives, refused}
 
 abbrev pub binary16 : Format
 binary16 = record { base = 2; digits = 11; emin = negsuc 23; emax = pos 5 }
@@ -16,9 +14,9 @@ abbrev pub decimal32 : Format
 decimal32 = record { base = 10; digits = 7; emin = negsuc 100; emax = pos 90 }
 
 -- the format that is published under a number, or refusal 10
-unfoldable pub publishedFormat : ℕ → FormatAnswer
-publishedFormat zero = Refused NoSuchFormat
-publishedFormat (suc zero) = Found binary16
-publishedFormat (suc (suc zero)) = Found binary32
-publishedFormat (suc (suc (suc zero))) = Found decimal32
-publishedFormat (suc (suc (suc (suc n)))) = Refused NoSuchFormat
+unfoldable pub publishedFormat : ℕ → Given Format
+publishedFormat zero = refused 10
+publishedFormat (suc zero) = gives binary16
+publishedFormat (suc (suc zero)) = gives binary32
+publishedFormat (suc (suc (suc zero))) = gives decimal32
+publishedFormat (suc (suc (suc (suc n)))) = refused 10

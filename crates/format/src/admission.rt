@@ -11,6 +11,7 @@ ghost use mathlib.Core.Path.{_≡_};
 ghost use mathlib.Core.Bool.{true};
 ghost use lib.IntN.{_-ℤ_, natAbs};
 ghost use lib.Signed.{leZ};
+ghost use Rattle.format.specs.Given.{verdictGiven};
 ghost use Rattle.format.specs.Formats.{admitted, exponentsAdmitted, formatChecked, highestPlace, preparation};
 
 // -1200 ≤ emin ≤ emax ≤ 1200.
@@ -83,7 +84,7 @@ pub fn prepare(format: Format) -> Preparation
 
 // Is the format admitted? Refuses 1.
 pub fn check_format(format: Format) -> Verdict
-    ensures { λ r. ⌜ r ≡ formatChecked format ⌝ }
+    ensures { λ r. ⌜ verdictGiven r ≡ formatChecked format ⌝ }
 {
     if is_admitted(format) {
         Verdict::Passed

@@ -3,6 +3,7 @@ use crate::Format;
 use crate::FormatAnswer;
 use crate::Refusal;
 ghost use mathlib.Core.Path.{_≡_};
+ghost use Rattle.format.specs.Given.{formatGiven};
 ghost use Rattle.format.specs.Published.{publishedFormat};
 
 // binary16, binary32 and decimal32, under the numbers 1, 2 and 3.
@@ -29,7 +30,7 @@ const FORMATS: [Format; 3] = [
 
 // The format that is published under `number`. Refuses 10.
 pub fn published(number: u32) -> FormatAnswer
-    ensures { λ r. ⌜ r ≡ publishedFormat number ⌝ }
+    ensures { λ r. ⌜ formatGiven r ≡ publishedFormat number ⌝ }
 {
     if number < 1 {
         return FormatAnswer::Refused(Refusal::NoSuchFormat);

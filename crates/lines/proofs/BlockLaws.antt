@@ -1,11 +1,6 @@
 -- Input in blocks is the whole input: what is printed block by block, and at the end, is what is printed for its lines.
-use Prim.Native.Nat.{ℕ, _≤_}
-use mathlib.Core.Path.{_≡_, sym, ap, ap₂, _∙_}
-use mathlib.Core.Bool.{Bool, true, false, cond}
-use mathlib.Core.List.{List, [], _∷_, _++_, append-nil, append-assoc, flatten}
-use native.Mathlib.Omega.{arith}
-use lib.Dec.{eqb}
-use borrow.Author.Tests.{ne-eqb}
+use Rattle.theory.proofs.Prelude.{ℕ, _≤_, true, false, Bool, cond, [], _∷_, List, _++_, append-nil, append-assoc, _∙_, ap, _≡_, sym, ap₂, arith, eqb, ne-eqb}
+use mathlib.Core.List.{flatten}
 use Rattle.lines.specs.declared.reading.Line.{Line}
 use Rattle.lines.specs.Reading.{fresh, pushed}
 use Rattle.lines.specs.Printing.{printed, textOf, lineFeed}

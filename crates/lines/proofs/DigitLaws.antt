@@ -1,14 +1,5 @@
 -- Every byte is tried: the digit that is read of it, and the letter of each digit.
-use Prim.Native.Nat.{ℕ, zero, suc, _+_, _*_, _/_, _%_, _≤_, _<_}
-use mathlib.Core.Path.{_≡_, refl, subst, sym, _∙_}
-use mathlib.Core.Bool.{Bool, true, cond}
-use mathlib.Core.Logic.{⊎-elim}
-use mathlib.Core.List.{List, [], _∷_}
-use native.Mathlib.Nat.{eq-or-lt-of-le}
-use native.Mathlib.Omega.{arith}
-use lib.Dec.{eqb, leb}
-use lib.ListN.{getD}
-use borrow.Author.Tests.{eqb-true, le-leb, lt-leb, eq-eqb, ne-eqb}
+use Rattle.theory.proofs.Prelude.{ℕ, _≤_, _<_, _+_, _*_, suc, zero, _%_, _/_, true, Bool, cond, [], _∷_, List, ⊎-elim, _∙_, _≡_, sym, refl, subst, eq-or-lt-of-le, arith, eqb, leb, getD, ne-eqb, eq-eqb, le-leb, lt-leb, eqb-true}
 use Rattle.theory.specs.Tests.{_and_}
 use Rattle.theory.proofs.Tests.{and-left, and-right}
 use Rattle.lines.specs.Digits.{digitOf, glyph}

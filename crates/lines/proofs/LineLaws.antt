@@ -1,27 +1,19 @@
 -- What is known of a line that was read byte by byte determines what is printed for it.
-use Prim.Native.Nat.{ℕ, suc, _+_, _*_, _%_, _^_, _≤_, _<_}
-use mathlib.Core.Path.{_≡_, refl, sym}
-use mathlib.Core.Bool.{Bool, true, false, cond}
-use mathlib.Core.List.{List, [], _∷_, _++_}
-use native.Mathlib.Decide.{decLe}
-use native.Mathlib.Nat.{zero-add, pow-suc}
-use native.Mathlib.Numerals.{add-one}
-use native.Mathlib.Omega.{arith}
-use lib.Dec.{leb}
-use lib.ListN.{length, length-append}
-use borrow.Author.Tests.{le-leb, lt-leb, lt-ltb, le-ltb, ne-eqb, ltb-true}
+use Rattle.theory.proofs.Prelude.{ℕ, _≤_, _<_, _+_, _^_, _*_, suc, _%_, true, false, Bool, cond, [], _∷_, List, _++_, _≡_, sym, refl, decLe, pow-suc, add-one, arith, leb, length, ne-eqb, le-leb, lt-leb, le-ltb, lt-ltb, ltb-true}
+use native.Mathlib.Nat.{zero-add}
+use lib.ListN.{length-append}
 use Rattle.theory.specs.Lists.{all}
 use Rattle.theory.specs.Tests.{_and_}
 use Rattle.theory.proofs.Tests.{and-left, and-right}
 use Rattle.theory.proofs.Powers.{pow-mono}
 use Rattle.lines.specs.declared.reading.Line.{Line}
 use Rattle.lines.specs.Digits.{digitOf, isDigit}
-use Rattle.lines.specs.Reading.{isPattern, valueFrom, valueOf, known, fresh, bad, pushed}
+use Rattle.lines.specs.Reading.{isPattern, valueFrom, digitsValue, known, fresh, bad, pushed}
 use Rattle.lines.specs.Printing.{printed, textOf}
 
 -- what is known of the bytes of a line
 unfoldable pub lineOf : List ℕ → Line
-lineOf bs = cond (all isDigit bs and leb (length bs) 8) (known (length bs) (valueOf bs)) bad
+lineOf bs = cond (all isDigit bs and leb (length bs) 8) (known (length bs) (digitsValue bs)) bad
 
 pub line-fresh : lineOf [] ≡ fresh
 unfolding lineOf all valueFrom _and_
@@ -70,7 +62,7 @@ module _ (seen : List ℕ) (b : ℕ) where
   unfolding lineOf
   ninth h = by (all isDigit seen and leb (length seen) 8)
     where
-      by : (t : Bool) → 8 ≤ (cond t (known (length seen) (valueOf seen)) bad) .count
+      by : (t : Bool) → 8 ≤ (cond t (known (length seen) (digitsValue seen)) bad) .count
       by true = h
       by false = omega arith
 
@@ -86,8 +78,8 @@ module _ (seen : List ℕ) (b : ℕ) where
       by t d (yes h) = rw (more, lt-leb (suc (length seen)) 8 (omega arith), and-false) (sym (push-ninth (lineOf seen) (ninth h)))
       by false d (no h) = rw (all-snoc seen b, d)
       by true d (no h) =
-          let low : valueOf seen < 16 ^ 7 = omega (arith, value-below 0 0 seen (omega arith) d, pow-mono {β = 16} (omega arith) {i = length seen + 0} {j = 7} (omega arith)) in
-          let whole : valueOf seen % 2 ^ 28 ≡ valueOf seen = omega arith in
+          let low : digitsValue seen < 16 ^ 7 = omega (arith, value-below 0 0 seen (omega arith) d, pow-mono {β = 16} (omega arith) {i = length seen + 0} {j = 7} (omega arith)) in
+          let whole : digitsValue seen % 2 ^ 28 ≡ digitsValue seen = omega arith in
           rw (all-snoc seen b, d, more, le-leb (suc (length seen)) 8 (omega arith), le-leb (length seen) 8 (omega arith), lt-ltb (length seen) 8 (omega arith), value-snoc, whole, and-true, add-one)
 
 -- ---- a whole line
@@ -106,6 +98,6 @@ module _ (bs : List ℕ) where
   unfolding lineOf
   some-byte h = by (all isDigit bs and leb (length bs) 8)
     where
-      by : (t : Bool) → 1 ≤ (cond t (known (length bs) (valueOf bs)) bad) .count
+      by : (t : Bool) → 1 ≤ (cond t (known (length bs) (digitsValue bs)) bad) .count
       by true = h
       by false = omega arith

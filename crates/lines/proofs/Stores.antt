@@ -1,10 +1,6 @@
 -- Texts stored one after the other.
-use Prim.Native.Nat.{ℕ, suc, _+_, _≤_}
-use mathlib.Core.Path.{_≡_, sym, ap, _∙_}
-use mathlib.Core.List.{List, [], _∷_, _++_}
-use native.Mathlib.Nat.{add-zero}
-use native.Mathlib.Omega.{arith}
-use lib.ListN.{length, set, length-append}
+use Rattle.theory.proofs.Prelude.{ℕ, _≤_, _+_, suc, [], _∷_, List, _++_, _∙_, ap, _≡_, sym, add-zero, arith, length, set}
+use lib.ListN.{length-append}
 use lib.Seq.{sets, length-sets}
 use Rattle.lines.specs.Printing.{Put}
 

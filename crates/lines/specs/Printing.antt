@@ -6,17 +6,13 @@ use mathlib.Core.List.{List, [], _∷_, _++_}
 use lib.Dec.{eqb}
 use lib.ListN.{length}
 use lib.Seq.{sets}
-use Rattle.format.specs.Refusals.{refusalNumber}
-use Rattle.number.specs.declared.Answer.{Answer}
-use Rattle.number.specs.declared.Answer.the-variants as answer
-use Rattle.binary32.specs.declared.Pattern.{Pattern}
-use Rattle.binary32.specs.declared.Pattern.the-variants as pattern
-use Rattle.binary32.specs.declared.places.Places.{Places}
+use Rattle.format.specs.Given.{Given, gives, refused, refusedAt}
+use Rattle.number.specs.declared.Number.{Number}
 use Rattle.binary32.specs.Patterns.{patternRead}
-use Rattle.binary32.specs.Places.{placesOf}
+use Rattle.binary32.specs.Places.{PlacesGiven, placesOf}
 use Rattle.lines.specs.declared.reading.Line.{Line}
 use Rattle.lines.specs.Digits.{lowDigits, decimal}
-use Rattle.lines.specs.Reading.{isPattern, valueOf}
+use Rattle.lines.specs.Reading.{isPattern, digitsValue}
 
 -- ---- texts
 -- `bad line`
@@ -38,24 +34,26 @@ spaced (t ∷ s ∷ ts) = t ++ 32 ∷ spaced (s ∷ ts)
 
 -- ---- places and neighbours
 -- a pattern, or `-` where there is none
-abbrev pub fieldText : Pattern → List ℕ
-fieldText (pattern.Written n) = lowDigits 8 n
-fieldText (pattern.Refused why) = 45 ∷ []
+abbrev pub fieldText : Given ℕ → List ℕ
+fieldText (gives n) = lowDigits 8 n
+fieldText (refused number) = 45 ∷ []
+fieldText (refusedAt number index) = 45 ∷ []
 
-abbrev pub fields : Places → List (List ℕ)
+abbrev pub fields : PlacesGiven → List (List ℕ)
 fields q = fieldText (q .ufp) ∷ fieldText (q .ulp) ∷ fieldText (q .predecessor) ∷ fieldText (q .successor) ∷ []
 
 -- ---- the printed line, without its line feed
 -- for a pattern that was read so
-abbrev pub answeredText : ℕ → Answer → List ℕ
-answeredText n (answer.Value x) = spaced (lowDigits 8 n ∷ fields (placesOf x))
-answeredText n (answer.Refused why) = spaced (lowDigits 8 n ∷ refusedWord ∷ decimal (refusalNumber why) ∷ [])
+abbrev pub answeredText : ℕ → Given Number → List ℕ
+answeredText n (gives x) = spaced (lowDigits 8 n ∷ fields (placesOf x))
+answeredText n (refused number) = spaced (lowDigits 8 n ∷ refusedWord ∷ decimal number ∷ [])
+answeredText n (refusedAt number index) = spaced (lowDigits 8 n ∷ refusedWord ∷ decimal number ∷ [])
 
 unfoldable pub patternText : ℕ → List ℕ
 patternText n = answeredText n (patternRead n)
 
 unfoldable pub printed : List ℕ → List ℕ
-printed line = cond (isPattern line) (patternText (valueOf line)) badLine
+printed line = cond (isPattern line) (patternText (digitsValue line)) badLine
 
 -- for what is known of a line when it ends
 unfoldable pub textOf : Line → List ℕ

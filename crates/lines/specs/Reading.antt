@@ -19,8 +19,8 @@ unfoldable pub valueFrom : (v : ℕ) → List ℕ → ℕ
 valueFrom v [] = v
 valueFrom v (b ∷ bs) = valueFrom (v * 16 + digitOf b) bs
 
-abbrev pub valueOf : List ℕ → ℕ
-valueOf line = valueFrom 0 line
+abbrev pub digitsValue : List ℕ → ℕ
+digitsValue line = valueFrom 0 line
 
 -- ---- byte by byte
 abbrev pub known : (count value : ℕ) → Line

@@ -1,6 +1,6 @@
 // The program for places: each line of the input is answered by a line.
 mod blocks;
-mod digits;
+pub mod digits;
 mod printing;
 mod reading;
 pub mod stream;

@@ -2,14 +2,16 @@
 // position after what it stored.
 use crate::digits::LETTERS;
 use crate::reading::Line;
-use binary32::Pattern;
+use binary32::PatternAnswer;
 use binary32::patterns::read_pattern;
 use binary32::places::Places;
 use binary32::places::places_of;
-use number::Answer;
+use number::NumberAnswer;
 ghost use mathlib.Core.List.{[], _∷_, _++_};
 ghost use Prim.Native.Nat.{_+_, _≤_};
 ghost use lib.ListN.{length};
+ghost use Rattle.binary32.specs.Patterns.{patternGiven};
+ghost use Rattle.binary32.specs.Places.{placesGiven};
 ghost use Rattle.lines.specs.Printing.{Put, fieldText, fields, spaced, patternText, textOf, lineFeed};
 
 // The bytes of a text.
@@ -26,12 +28,12 @@ fn put_text(out: &mut [u8], at: usize, text: &[u8]) -> usize
 }
 
 // A pattern, or - where there is none, and the byte that ends it.
-fn put_field(out: &mut [u8], at: usize, field: Pattern, end: u8) -> usize
+fn put_field(out: &mut [u8], at: usize, field: PatternAnswer, end: u8) -> usize
     requires { ⌜ at + 9 ≤ length (now out) ⌝ }
-    ensures { λ r. ⌜ Put at 9 (fieldText field ++ end ∷ []) (now (out .entry)) r (now (out .exit)) ⌝ }
+    ensures { λ r. ⌜ Put at 9 (fieldText (patternGiven field) ++ end ∷ []) (now (out .entry)) r (now (out .exit)) ⌝ }
 {
     match field {
-        Pattern::Written(n) => {
+        PatternAnswer::Written(n) => {
             let letters = LETTERS;
             let text = [
                 letters[(n / 268435456 % 16) as usize],
@@ -46,7 +48,7 @@ fn put_field(out: &mut [u8], at: usize, field: Pattern, end: u8) -> usize
             ];
             put_text(out, at, &text)
         }
-        Pattern::Refused(_) => {
+        PatternAnswer::Refused(_) => {
             let text = [45, end];
             put_text(out, at, &text)
         }
@@ -56,7 +58,7 @@ fn put_field(out: &mut [u8], at: usize, field: Pattern, end: u8) -> usize
 // ufp, ulp, predecessor, successor.
 fn put_places(out: &mut [u8], at: usize, places: Places) -> usize
     requires { ⌜ at + 36 ≤ length (now out) ⌝ }
-    ensures { λ r. ⌜ Put at 36 (spaced (fields places) ++ lineFeed) (now (out .entry)) r (now (out .exit)) ⌝ }
+    ensures { λ r. ⌜ Put at 36 (spaced (fields (placesGiven places)) ++ lineFeed) (now (out .entry)) r (now (out .exit)) ⌝ }
 {
     let ufp = places.ufp;
     let ulp = places.ulp;
@@ -73,10 +75,10 @@ fn put_pattern(out: &mut [u8], at: usize, pattern: u32) -> usize
     requires { ⌜ at + 45 ≤ length (now out) ⌝ }
     ensures { λ r. ⌜ Put at 45 (patternText pattern ++ lineFeed) (now (out .entry)) r (now (out .exit)) ⌝ }
 {
-    let next = put_field(out, at, Pattern::Written(pattern), 32);
+    let next = put_field(out, at, PatternAnswer::Written(pattern), 32);
     match read_pattern(pattern) {
-        Answer::Refused(_) => put_text(out, next, b"refused 9\n"),
-        Answer::Value(_) => put_places(out, next, places_of(pattern)),
+        NumberAnswer::Refused(_) => put_text(out, next, b"refused 9\n"),
+        NumberAnswer::Value(_) => put_places(out, next, places_of(pattern)),
     }
 }
 

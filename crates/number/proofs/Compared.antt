@@ -1,84 +1,66 @@
 -- What compare answers is the order of the exact values of two numbers of the format: less, greater and equal say so, equal only
 -- for one record, the order turns round and is transitive.
-use mathlib.Core.Path.{_≡_, refl, sym, ap, _∙_}
-use mathlib.Core.List.{[], _∷_}
-use Prim.Native.Nat.{ℕ}
-use native.Mathlib.Omega.{arith}
-use lib.Signed.{_<ℤ_}
+use Rattle.theory.proofs.Prelude.{true, [], _∷_, _∙_, ap, _≡_, sym, refl, arith, _<ℤ_}
 use Rattle.theory.specs.Lists.{all}
+use Rattle.theory.proofs.Tests.{and-left, and-right}
 use Rattle.theory.proofs.Integers.{lt-parts, parts-lt}
 use Rattle.format.specs.declared.Format.{Format}
-use Rattle.format.specs.declared.Refusal.{Refusal}
-use Rattle.format.specs.declared.Verdict.{Verdict}
-use Rattle.format.specs.declared.Verdict.the-variants as verdict
-use Rattle.format.specs.declared.Preparation.the-variants as prepared
-use Rattle.format.specs.Formats.{preparedOf}
+use Rattle.format.specs.Given.{Given, gives}
+use Rattle.format.specs.Formats.{admitted}
 use Rattle.format.proofs.Formats.{admits}
+use Rattle.format.proofs.GivenLaws.{gives-same, gives-not-refused}
 use Rattle.number.specs.declared.Number.{Number}
-use Rattle.number.specs.declared.Ordered.{Ordered}
-use Rattle.number.specs.declared.Ordered.the-variants.{Less, Equal, Greater, Refused}
-use Rattle.number.specs.Numbers.{value}
-use Rattle.number.specs.Entry.{entry, after, entered}
+use Rattle.number.specs.declared.Ordering.{Ordering}
+use Rattle.number.specs.declared.Ordering.the-variants.{Less, Equal, Greater}
+use Rattle.number.specs.Numbers.{member, value}
+use Rattle.number.specs.Checks.{Checks, not-admitted, no-direction, not-member, all-passed}
 use Rattle.number.specs.Order.{orderZ, compared}
 use Rattle.number.proofs.Membership.{members}
 use Rattle.number.proofs.Values.{member-unique}
-use Rattle.number.proofs.Entries.{Passed, passed, two-members, pair-made, entry-made}
+use Rattle.number.proofs.CheckLaws.{checked-passed, checks-end, pair-made}
 use Rattle.number.proofs.Comparison.{less-says, equal-says, greater-says, less-when, greater-when}
 
 -- a and b are numbers of the format, and r is the order of their values
-record Compared (f : Format) (a b : Number) (r : Ordered) : Type 0 where
-  pair : Passed f [] (a ∷ b ∷ []) (preparedOf f)
+record Compared (f : Format) (a b : Number) (r : Ordering) : Type 0 where
+  admitted-format : admitted f ≡ true
+  pair : (member f a ≡ true) × (member f b ≡ true)
   order : orderZ (value f a) (value f b) ≡ r
 
-given : {f : Format} {a b : Number} {r : Ordered} → ((why : Refusal) → Refused why ≡ r → ⊥) → compared f a b ≡ r → Compared f a b r
-unfolding compared entered after
-given {f} {a} {b} {r} answers h = go (entry f [] (a ∷ b ∷ [])) refl
+known : {f : Format} {a b : Number} {r : Ordering} → compared f a b ≡ gives r → Compared f a b r
+unfolding compared all
+known {f} {a} {b} {r} h = by (checks-end f [] (a ∷ b ∷ []) (gives (orderZ (value f a) (value f b)))) h
   where
-    go : (v : Verdict) → entry f [] (a ∷ b ∷ []) ≡ v → Compared f a b r
-    go verdict.Passed e =
-        record {
-          pair = passed f [] (a ∷ b ∷ []) (ap (λ (v : Verdict). after v prepared.Refused (prepared.Ready (preparedOf f))) e);
-          order = sym (ap (λ (v : Verdict). after v Refused (orderZ (value f a) (value f b))) e) ∙ h;
-        }
-    go (verdict.Refused why) e = absurd (answers why (sym (ap (λ (v : Verdict). after v Refused (orderZ (value f a) (value f b))) e) ∙ h))
-
-not-less : (why : Refusal) → Refused why ≡ Less → ⊥
-not-less why h = let z : _≡_ {A = ℕ} 0 1 = cc in omega arith
-
-not-equal : (why : Refusal) → Refused why ≡ Equal → ⊥
-not-equal why h = let z : _≡_ {A = ℕ} 0 1 = cc in omega arith
-
-not-greater : (why : Refusal) → Refused why ≡ Greater → ⊥
-not-greater why h = let z : _≡_ {A = ℕ} 0 1 = cc in omega arith
+    by : {g : Given Ordering} → Checks f [] (a ∷ b ∷ []) (gives (orderZ (value f a) (value f b))) g → g ≡ gives r → Compared f a b r
+    by (not-admitted n) e = absurd (gives-not-refused (sym e))
+    by (no-direction n m) e = absurd (gives-not-refused (sym e))
+    by (not-member n m l) e = absurd (gives-not-refused (sym e))
+    by (all-passed n m l) e = record { admitted-format = n; pair = (and-left _ _ l, and-left _ _ (and-right _ _ l)); order = gives-same e }
 
 module _ (f : Format) (a b : Number) where
-  pub compared-less : compared f a b ≡ Less → value f a <ℤ value f b
-  compared-less h = less-says (given not-less h .order)
+  pub compared-less : compared f a b ≡ gives Less → value f a <ℤ value f b
+  compared-less h = less-says (known h .order)
 
-  pub compared-greater : compared f a b ≡ Greater → value f b <ℤ value f a
-  compared-greater h = greater-says (given not-greater h .order)
+  pub compared-greater : compared f a b ≡ gives Greater → value f b <ℤ value f a
+  compared-greater h = greater-says (known h .order)
 
   -- equal only for one record
-  pub compared-equal : compared f a b ≡ Equal → a ≡ b
+  pub compared-equal : compared f a b ≡ gives Equal → a ≡ b
   compared-equal h =
-      let c = given not-equal h in
-      let ok = admits _ (c .pair .format) in
-      let m = two-members (c .pair) in
+      let c = known h in
+      let ok = admits _ (c .admitted-format) in
+      let m = c .pair in
       member-unique ok (members _ ok (m .0)) (members _ ok (m .1)) (equal-says (c .order))
 
-  pub compared-turned : compared f a b ≡ Less → compared f b a ≡ Greater
-  unfolding compared after all
+  pub compared-turned : compared f a b ≡ gives Less → compared f b a ≡ gives Greater
+  unfolding compared all
   compared-turned h =
-      let c = given not-less h in
-      let m = two-members (c .pair) in
-      ap (λ (v : Verdict). after v Refused (orderZ (value f b) (value f a))) (entry-made f [] (b ∷ a ∷ []) (c .pair .format) refl (pair-made f b a (m .1) (m .0)))
-      ∙ greater-when (less-says (c .order))
+      let c = known h in
+      checked-passed f [] (b ∷ a ∷ []) _ (c .admitted-format) refl (pair-made f b a (c .pair .1) (c .pair .0)) ∙ ap gives (greater-when (less-says (c .order)))
 
-pub compared-transitive : (f : Format) (a b d : Number) → compared f a b ≡ Less → compared f b d ≡ Less → compared f a d ≡ Less
-unfolding compared after all
+pub compared-transitive : (f : Format) (a b d : Number) → compared f a b ≡ gives Less → compared f b d ≡ gives Less → compared f a d ≡ gives Less
+unfolding compared all
 compared-transitive f a b d h k =
-    let c = given not-less h in
-    let e = given not-less k in
-    ap (λ (v : Verdict). after v Refused (orderZ (value f a) (value f d)))
-    (entry-made f [] (a ∷ d ∷ []) (c .pair .format) refl (pair-made f a d (two-members (c .pair) .0) (two-members (e .pair) .1)))
-    ∙ less-when (parts-lt (value f a) (value f d) (omega (arith, lt-parts (less-says (c .order)), lt-parts (less-says (e .order)))))
+    let c = known h in
+    let e = known k in
+    checked-passed f [] (a ∷ d ∷ []) _ (c .admitted-format) refl (pair-made f a d (c .pair .0) (e .pair .1))
+    ∙ ap gives (less-when (parts-lt (value f a) (value f d) (omega (arith, lt-parts (less-says (c .order)), lt-parts (less-says (e .order))))))

@@ -1,13 +1,5 @@
 -- The order of numbers is the order of their values: first by sign, then by exponent, then by significand.
-use mathlib.Core.Path.{_≡_, refl, sym, ap, ap₂, _∙_}
-use mathlib.Core.Bool.{Bool, true, false}
-use Prim.Native.Nat.{ℕ, zero, suc, _+_, _*_, _-_, _^_, _≤_, _<_}
-use native.Mathlib.Omega.{arith}
-use native.Mathlib.Nat.{pow-succ', mul-le-mul, mul-lt-mul-of-pos-right, mul-pos}
-use lib.IntN.{ℤ, pos, negℤ, _-ℤ_}
-use lib.Signed.{ltZ, _<ℤ_}
-use lib.Dec.{ltb}
-use borrow.Author.Tests.{lt-ltb, le-ltb, ltb-true, ltb-false}
+use Rattle.theory.proofs.Prelude.{ℕ, _≤_, _<_, _+_, _^_, _*_, _-_, suc, zero, true, false, Bool, _∙_, ap, _≡_, sym, refl, ap₂, mul-pos, mul-lt-mul-of-pos-right, pow-succ', mul-le-mul, arith, ltb, ℤ, pos, _-ℤ_, negℤ, ltZ, _<ℤ_, le-ltb, lt-ltb, ltb-true, ltb-false}
 use Rattle.theory.specs.Signed.{signed}
 use Rattle.theory.proofs.Tests.{never}
 use Rattle.theory.proofs.Integers.{above, below, neg-above, neg-below, diff-parts, size-parts, parts-eq, parts-lt, lt-parts}
@@ -17,8 +9,8 @@ use Rattle.format.specs.declared.Refusal.{Refusal}
 use Rattle.format.proofs.Signed.{Upto, Under, apart, lt-true, lt-false, make-lt, make-ge}
 use Rattle.format.proofs.Formats.{Admitted}
 use Rattle.number.specs.declared.Number.{Number}
-use Rattle.number.specs.declared.Ordered.{Ordered}
-use Rattle.number.specs.declared.Ordered.the-variants.{Less, Equal, Greater, Refused}
+use Rattle.number.specs.declared.Ordering.{Ordering}
+use Rattle.number.specs.declared.Ordering.the-variants.{Less, Equal, Greater}
 use Rattle.number.specs.Numbers.{placeOf, magnitude, value}
 use Rattle.number.specs.Order.{ordered, orderN, orderZ}
 use Rattle.number.proofs.Membership.{Member}
@@ -119,11 +111,10 @@ unfolding orderZ
 greater-when {v} {w} h = rw (make-ge v w (let l = lt-parts h in omega arith), make-lt w v (lt-parts h))
 
 -- ---- what an answer says
-record Says (lt gt : Bool) (r : Ordered) : Type 0 where
+record Says (lt gt : Bool) (r : Ordering) : Type 0 where
   less : r ≡ Less → lt ≡ true
   equal : r ≡ Equal → (lt ≡ false) × (gt ≡ false)
   greater : r ≡ Greater → gt ≡ true
-  refused : (why : Refusal) → r ≡ Refused why → ⊥
 
 says : (lt gt : Bool) → Says lt gt (ordered lt gt)
 says true gt =
@@ -131,21 +122,18 @@ says true gt =
       less = λ h. refl;
       equal = λ h. absurd (let z : _≡_ {A = ℕ} 0 1 = cc in omega arith);
       greater = λ h. absurd (let z : _≡_ {A = ℕ} 0 1 = cc in omega arith);
-      refused = λ why h. let z : _≡_ {A = ℕ} 0 1 = cc in omega arith;
     }
 says false true =
     record {
       less = λ h. absurd (let z : _≡_ {A = ℕ} 0 1 = cc in omega arith);
       equal = λ h. absurd (let z : _≡_ {A = ℕ} 0 1 = cc in omega arith);
       greater = λ h. refl;
-      refused = λ why h. let z : _≡_ {A = ℕ} 0 1 = cc in omega arith;
     }
 says false false =
     record {
       less = λ h. absurd (let z : _≡_ {A = ℕ} 0 1 = cc in omega arith);
       equal = λ h. (refl, refl);
       greater = λ h. absurd (let z : _≡_ {A = ℕ} 0 1 = cc in omega arith);
-      refused = λ why h. let z : _≡_ {A = ℕ} 0 1 = cc in omega arith;
     }
 
 pub less-says : {v w : ℤ} → orderZ v w ≡ Less → v <ℤ w
@@ -162,10 +150,6 @@ pub greater-says : {v w : ℤ} → orderZ v w ≡ Greater → w <ℤ v
 unfolding orderZ
 greater-says {v} {w} h = parts-lt w v (lt-true w v (says (ltZ v w) (ltZ w v) .greater h))
 
-pub never-refused : (v w : ℤ) (why : Refusal) → orderZ v w ≡ Refused why → ⊥
-unfolding orderZ
-never-refused v w why h = says (ltZ v w) (ltZ w v) .refused why h
-
 -- of two magnitudes
 pub size-less-says : {m n : ℕ} → orderN m n ≡ Less → m < n
 unfolding orderN
@@ -178,7 +162,3 @@ size-equal-says {m} {n} h = ltb-false m n (says (ltb m n) (ltb n m) .equal h .0)
 pub size-greater-says : {m n : ℕ} → orderN m n ≡ Greater → n < m
 unfolding orderN
 size-greater-says {m} {n} h = ltb-true n m (says (ltb m n) (ltb n m) .greater h)
-
-pub size-never-refused : (m n : ℕ) (why : Refusal) → orderN m n ≡ Refused why → ⊥
-unfolding orderN
-size-never-refused m n why h = says (ltb m n) (ltb n m) .refused why h

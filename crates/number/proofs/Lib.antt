@@ -1,7 +1,8 @@
 -- Laws of numbers, of their values, and of the checks that every call begins with.
 pub mod Membership
 pub mod Values
-pub mod Entries
+pub mod CheckLaws
 pub mod Comparison
 pub mod Compared
 pub mod Negation
+pub mod AnswerLaws

@@ -1,12 +1,5 @@
 -- The numbers of a format: what membership says, as facts that `omega` reads, and how it is made.
-use mathlib.Core.Path.{_≡_, refl, sym, ap, subst, _∙_}
-use mathlib.Core.Bool.{Bool, true, false, not}
-use mathlib.Core.Logic.{_⊎_, ⊎-elim}
-use Prim.Native.Nat.{_-_, _^_, _≤_, _<_}
-use native.Mathlib.Omega.{arith}
-use lib.IntN.{ℤ}
-use lib.Dec.{leb, eqb}
-use borrow.Author.Tests.{leb-true, leb-false, le-leb, ltb-true, lt-ltb, eqb-true, eqb-false, eq-eqb}
+use Rattle.theory.proofs.Prelude.{_≤_, _<_, _^_, _-_, true, false, Bool, cond, not, ⊎-elim, _⊎_, _∙_, ap, _≡_, sym, refl, subst, arith, eqb, leb, ltb, ℤ, leZ, eq-eqb, le-leb, leb-true, leb-false, eqb-true, lt-ltb, ltb-true, eqb-false}
 use Rattle.theory.specs.Tests.{_and_, _or_}
 use Rattle.theory.proofs.Tests.{never, and-left, and-right, and-made, or-cases, or-left, or-right, not-true, refuted}
 use Rattle.theory.proofs.Integers.{above, below, parts-eq}
@@ -17,7 +10,7 @@ use Rattle.format.specs.Formats.{admitted, preparedOf, highestPlace, Scaled}
 use Rattle.format.proofs.Signed.{Upto, le-true, make-le}
 use Rattle.format.proofs.Formats.{Admitted, admits, full-top, scaled}
 use Rattle.number.specs.declared.Number.{Number}
-use Rattle.number.specs.Entry.{Usable}
+use Rattle.number.specs.Checks.{Usable, memberOf}
 use Rattle.number.specs.Numbers.{equalZ, normal, small, isZero, member}
 
 pub equal-true : (a b : ℤ) → equalZ a b ≡ true → a ≡ b
@@ -115,23 +108,52 @@ module _ {f : Format} (x : Number) (a : Admitted f) where
       by-full true l = or-left (small f x or isZero f x) (as-normal (leb-true _ _ l))
       by-full false l = by-zero (eqb (x .significand) 0) refl (leb-false _ _ l)
 
-  -- of the records with significand 0 and exponent emin, the one with sign plus
-  pub zero-member : x .significand ≡ 0 → Upto (f .emin) (x .exponent) → Upto (x .exponent) (f .emin) → not (x .negative) ≡ member f x
-  zero-member z l h = go (x .negative) refl
+  -- the test of a prepared format is membership
+  pub member-prepared : memberOf (preparedOf f) x ≡ member f x
+  unfolding memberOf
+  member-prepared = by (memberOf (preparedOf f) x) refl
     where
-      go : (n : Bool) → x .negative ≡ n → not n ≡ member f x
-      go true e = refuted (λ t. never (sym e ∙ members t .zero-sign z))
-      go false e =
-          let r = a .range in
-          sym
-          (member-made
-          (record {
-            significand-high = omega (arith, full-positive a, full-top a);
-            exponent-low = l;
-            exponent-high = omega arith;
-            small-place = λ s. h;
-            zero-sign = λ _. e;
-          }))
+      made : memberOf (preparedOf f) x ≡ true → Member f x
+      made h = ⊎-elim full few (or-cases _ _ h)
+        where
+          full : leb (f .base ^ (f .digits - 1)) (x .significand) and ltb (x .significand) (f .base ^ f .digits) and leZ (f .emin) (x .exponent) and leZ (x .exponent) (f .emax) ≡ true → Member f x
+          full h₁ =
+              let l : f .base ^ (f .digits - 1) ≤ x .significand = leb-true _ _ (and-left _ _ h₁) in
+              let h₂ = and-right _ _ h₁ in
+              let h₃ = and-right _ _ h₂ in
+              record {
+                significand-high = ltb-true _ _ (and-left _ _ h₂);
+                exponent-low = le-true (f .emin) (x .exponent) (and-left _ _ h₃);
+                exponent-high = le-true (x .exponent) (f .emax) (and-right _ _ h₃);
+                small-place = λ s. absurd (omega arith);
+                zero-sign = λ z. absurd (omega (arith, full-positive a));
+              }
+
+          few : equalZ (x .exponent) (f .emin) and cond (eqb (x .significand) 0) (not (x .negative)) (ltb (x .significand) (f .base ^ (f .digits - 1))) ≡ true → Member f x
+          few h₁ = at (eqb (x .significand) 0) refl (and-right _ _ h₁)
+            where
+              at : (t : Bool) → eqb (x .significand) 0 ≡ t → cond t (not (x .negative)) (ltb (x .significand) (f .base ^ (f .digits - 1))) ≡ true → Member f x
+              at true z n = at-emin (equal-true _ _ (and-left _ _ h₁)) (omega (arith, full-top a, full-positive a, eqb-true (x .significand) 0 z)) (λ _. not-true n)
+              at false z s = at-emin (equal-true _ _ (and-left _ _ h₁)) (omega (arith, full-top a, ltb-true (x .significand) (f .base ^ (f .digits - 1)) s)) (λ e. absurd (eqb-false _ _ z e))
+
+      holds : Member f x → memberOf (preparedOf f) x ≡ true
+      holds i = go (leb (f .base ^ (f .digits - 1)) (x .significand)) refl (eqb (x .significand) 0) refl
+        where
+          go : (l : Bool) → leb (f .base ^ (f .digits - 1)) (x .significand) ≡ l → (z : Bool) → eqb (x .significand) 0 ≡ z
+              → l and ltb (x .significand) (f .base ^ f .digits) and leZ (f .emin) (x .exponent) and leZ (x .exponent) (f .emax)
+              or equalZ (x .exponent) (f .emin) and cond z (not (x .negative)) (ltb (x .significand) (f .base ^ (f .digits - 1))) ≡ true
+          go true e z g =
+              or-left _ (and-made refl (and-made (lt-ltb _ _ (i .significand-high)) (and-made (make-le (f .emin) (x .exponent) (i .exponent-low)) (make-le (x .exponent) (f .emax) (i .exponent-high)))))
+          go false e true g =
+              let s = leb-false _ _ e in
+              or-right _ (and-made (make-equal (x .exponent) (f .emin) (i .small-place s) (i .exponent-low)) (rw (i .zero-sign (eqb-true _ _ g))))
+          go false e false g =
+              let s = leb-false _ _ e in
+              or-right _ (and-made (make-equal (x .exponent) (f .emin) (i .small-place s) (i .exponent-low)) (lt-ltb _ _ s))
+
+      by : (t : Bool) → memberOf (preparedOf f) x ≡ t → t ≡ member f x
+      by true h = sym (member-made (made h))
+      by false h = refuted (λ m. never (sym (holds (members m)) ∙ h))
 
 -- ---- a prepared format in place of the format
 pub record Known (q : Prepared) : Type 0 where
@@ -167,7 +189,3 @@ module _ {q : Prepared} {f : Format} (e : q ≡ preparedOf f) where
 
 pub usable : {q : Prepared} {f : Format} → admitted f ≡ true → q ≡ preparedOf f → Usable q
 usable h e = record { format = ap admitted (prepared-format e) ∙ h; is = e ∙ ap preparedOf (sym (prepared-format e)) }
-
-pub decided : (q : Prepared) (x : Number) {r : Bool} → (Known q → r ≡ member (q .format) x)
-    → (f : Format) → admitted f ≡ true → q ≡ preparedOf f → r ≡ member f x
-decided q x h f a e = h (known (usable a e)) ∙ ap (λ (g : Format). member g x) (prepared-format e)

@@ -1,8 +1,5 @@
 -- Negation turns the sign of the value, negating twice gives the number back, and the magnitude has the value without its sign.
-use mathlib.Core.Path.{_≡_, refl, sym, ap, _∙_}
-use mathlib.Core.Bool.{Bool, false, not}
-use Prim.Native.Nat.{zero, suc}
-use lib.IntN.{ℤ, pos, negsuc, negℤ}
+use Rattle.theory.proofs.Prelude.{suc, zero, false, Bool, not, _∙_, ap, _≡_, sym, refl, ℤ, pos, negsuc, negℤ}
 use Rattle.theory.specs.Signed.{signed}
 use Rattle.theory.proofs.Integers.{negate-signed}
 use Rattle.format.specs.declared.Format.{Format}

@@ -1,14 +1,7 @@
 -- Numbers and their exact values: a number of the format is the canonical number of its value, and the canonical number of a
 -- magnitude of the wide format up to the greatest is in the format and has that value.
-use Prim.Native.Nat.{ℕ, zero, suc, _+_, _*_, _-_, _/_, _^_, _≤_, _<_}
-use mathlib.Core.Path.{_≡_, refl, sym, ap, ap₂, subst, _∙_}
-use mathlib.Core.Bool.{Bool, true, false, not, _&&_}
-use mathlib.Core.Logic.{_⊎_, inl, inr, ⊎-elim}
-use native.Mathlib.Omega.{arith}
-use native.Mathlib.Nat.{le-refl, mul-div-cancel, mul-le-mul, mul-le-mul-left, mul-lt-mul-of-pos-left, mul-lt-mul-of-pos-right, mul-pos, zero-mul, pow-zero}
-use lib.Dec.{eqb, leb}
-use lib.IntN.{ℤ, pos, natAbs, _+ℤ_, _-ℤ_}
-use borrow.Author.Tests.{leb-true, leb-false, le-leb, lt-leb, ne-eqb, eq-eqb}
+use Rattle.theory.proofs.Prelude.{ℕ, _≤_, _<_, _+_, _^_, _*_, _-_, suc, zero, _/_, true, false, Bool, not, _&&_, ⊎-elim, inl, inr, _⊎_, _∙_, ap, _≡_, sym, refl, ap₂, subst, mul-le-mul-left, pow-zero, mul-pos, mul-lt-mul-of-pos-right, mul-le-mul, zero-mul, mul-div-cancel, le-refl, arith, eqb, leb, ℤ, pos, _+ℤ_, natAbs, _-ℤ_, ne-eqb, eq-eqb, le-leb, leb-true, lt-leb, leb-false}
+use native.Mathlib.Nat.{mul-lt-mul-of-pos-left}
 use Rattle.theory.specs.Place.{place, step}
 use Rattle.theory.specs.Wide.{Wide, Canonical}
 use Rattle.theory.specs.Signed.{signed}
@@ -17,14 +10,14 @@ use Rattle.theory.proofs.Powers.{pow-add, pow-pos, pow-pred, pow-mono, pow-half
 use Rattle.theory.proofs.Place.{place-le}
 use Rattle.theory.proofs.Wide.{wide-pow}
 use Rattle.theory.proofs.Canonical.{canonical-place, canonical-wide, canonical-of, canonical-value}
+use Rattle.theory.specs.Tests.{unless}
 use Rattle.theory.proofs.Tests.{unless-passed, unless-failed}
 use Rattle.format.specs.declared.Format.{Format}
-use Rattle.format.specs.declared.Refusal.the-variants.{TooLarge}
 use Rattle.format.specs.Formats.{exponentsAdmitted, highestPlace}
 use Rattle.format.proofs.Signed.{Upto, apart}
 use Rattle.format.proofs.Formats.{Admitted, positional, exponents-made, distances}
 use Rattle.number.specs.declared.Number.{Number}
-use Rattle.number.specs.declared.Answer.the-variants.{Value, Refused}
+use Rattle.format.specs.Given.{gives, refused}
 use Rattle.number.specs.Numbers.{placeOf, magnitude, value, greatest, number, delivered}
 use Rattle.number.specs.Signs.{withSign}
 use Rattle.number.proofs.Membership.{Member}
@@ -101,6 +94,12 @@ number-same f s t m n e =
     signs true false (suc m) (suc n) e = absurd (omega (arith, ap above e))
     signs false true (suc m) (suc n) e = absurd (omega (arith, ap above e))
     signs false false (suc m) (suc n) e = keeps m false ∙ sym (keeps n false)
+
+-- a result is delivered by its value: zero has no other sign
+pub delivered-same : (f : Format) (s t : Bool) (m n : ℕ) → signed s m ≡ signed t n → delivered f s m ≡ delivered f t n
+unfolding delivered
+delivered-same f s t m n e =
+    ap₂ (λ (k : ℕ) (x : Number). unless (leb k (greatest f)) (refused 5) (gives x)) (sym (size-signed s m) ∙ ap natAbs e ∙ size-signed t n) (number-same f s t m n e)
 
 module _ {f : Format} (a : Admitted f) where
   greatest-below : greatest f < f .base ^ (f .digits + highestPlace f)
@@ -221,11 +220,11 @@ module _ {f : Format} (a : Admitted f) where
 
   -- ---- a result of the wide format
   module _ {m k : ℕ} (c : Canonical (f .base) (f .digits) m k) (negative : Bool) where
-    pub delivered-within : k ≤ highestPlace f → delivered f negative (m * f .base ^ k) ≡ Value (number f negative (m * f .base ^ k))
+    pub delivered-within : k ≤ highestPlace f → delivered f negative (m * f .base ^ k) ≡ gives (number f negative (m * f .base ^ k))
     unfolding delivered
     delivered-within h = unless-passed _ _ (le-leb _ _ (canonical-within c h))
 
-    pub delivered-beyond : highestPlace f < k → delivered f negative (m * f .base ^ k) ≡ Refused TooLarge
+    pub delivered-beyond : highestPlace f < k → delivered f negative (m * f .base ^ k) ≡ refused 5
     unfolding delivered
     delivered-beyond h = unless-failed _ _ (lt-leb _ _ (canonical-beyond c h))
 

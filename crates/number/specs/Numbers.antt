@@ -8,11 +8,9 @@ use Rattle.theory.specs.Tests.{_and_, _or_, unless}
 use Rattle.theory.specs.Place as theory
 use Rattle.theory.specs.Signed.{signed}
 use Rattle.format.specs.declared.Format.{Format}
-use Rattle.format.specs.declared.Refusal.the-variants.{TooLarge}
+use Rattle.format.specs.Given.{Given, gives, refused}
 use Rattle.format.specs.Formats.{highestPlace}
 use Rattle.number.specs.declared.Number.{Number}
-use Rattle.number.specs.declared.Answer.{Answer}
-use Rattle.number.specs.declared.Answer.the-variants.{Value, Refused}
 
 -- ---- in the format
 unfoldable pub equalZ : ℤ → ℤ → Bool
@@ -61,5 +59,5 @@ number f negative n =
     }
 
 -- a result of the wide format: a number of the format, or refusal 5 above the greatest
-unfoldable pub delivered : Format → (negative : Bool) (n : ℕ) → Answer
-delivered f negative n = unless (leb n (greatest f)) (Refused TooLarge) (Value (number f negative n))
+unfoldable pub delivered : Format → (negative : Bool) (n : ℕ) → Given Number
+delivered f negative n = unless (leb n (greatest f)) (refused 5) (gives (number f negative n))

@@ -3,24 +3,23 @@ use mathlib.Core.Bool.{Bool, false, not, _&&_}
 use mathlib.Core.List.{[], _∷_}
 use lib.Dec.{eqb}
 use Rattle.format.specs.declared.Format.{Format}
+use Rattle.format.specs.Given.{Given, gives}
 use Rattle.number.specs.declared.Number.{Number}
-use Rattle.number.specs.declared.Answer.{Answer}
-use Rattle.number.specs.declared.Answer.the-variants.{Value, Refused}
 use Rattle.number.specs.Numbers.{magnitude, number}
-use Rattle.number.specs.Entry.{entry, after}
+use Rattle.number.specs.Checks.{checked}
 
 -- the record x with another sign; zero is plus
 abbrev pub withSign : Number → Bool → Number
 withSign x negative = record { negative = not (eqb (x .significand) 0) && negative; significand = x .significand; exponent = x .exponent }
 
 -- the number with the magnitude of x and this sign, after the checks
-abbrev pub signedAnswer : Format → Number → (negative : Bool) → Answer
-signedAnswer f x negative = after (entry f [] (x ∷ [])) Refused (Value (number f negative (magnitude f x)))
+abbrev pub signedAnswer : Format → Number → (negative : Bool) → Given Number
+signedAnswer f x negative = checked f [] (x ∷ []) (gives (number f negative (magnitude f x)))
 
 -- the answer of negate: the other sign, the same magnitude
-unfoldable pub negated : Format → Number → Answer
+unfoldable pub negated : Format → Number → Given Number
 negated f x = signedAnswer f x (not (x .negative))
 
 -- the answer of magnitude
-unfoldable pub unsigned : Format → Number → Answer
+unfoldable pub unsigned : Format → Number → Given Number
 unsigned f x = signedAnswer f x false

@@ -1,6 +1,6 @@
 // A significand at a place, as a number of the format.
-use crate::Answer;
 use crate::Number;
+use crate::NumberAnswer;
 use crate::exponents::exponent_at;
 use crate::signs::with_sign;
 use format::Prepared;
@@ -9,7 +9,8 @@ use format::Significand;
 ghost use mathlib.Core.Path.{_≡_};
 ghost use Prim.Native.Nat.{_≤_, _*_, _^_};
 ghost use Rattle.theory.specs.Wide.{Canonical};
-ghost use Rattle.number.specs.Entry.{Usable};
+ghost use Rattle.number.specs.Answers.{numberGiven};
+ghost use Rattle.number.specs.Checks.{Usable};
 ghost use Rattle.number.specs.Numbers.{number, delivered};
 
 // The number significand * base^place in units of base^emin. Zero is plus.
@@ -27,12 +28,17 @@ pub fn number_at(prepared: Prepared, negative: bool, significand: Significand, p
 }
 
 // The same, or refusal 5 above the greatest number.
-pub fn deliver(prepared: Prepared, negative: bool, significand: Significand, place: u32) -> Answer
+pub fn deliver(
+    prepared: Prepared,
+    negative: bool,
+    significand: Significand,
+    place: u32,
+) -> NumberAnswer
     requires { ⌜ Usable prepared × Canonical (prepared .format .base) (prepared .format .digits) significand place ⌝ }
-    ensures { λ r. ⌜ r ≡ delivered (prepared .format) negative (significand * prepared .format .base ^ place) ⌝ }
+    ensures { λ r. ⌜ numberGiven r ≡ delivered (prepared .format) negative (significand * prepared .format .base ^ place) ⌝ }
 {
     if prepared.highest < place {
-        return Answer::Refused(Refusal::TooLarge);
+        return NumberAnswer::Refused(Refusal::TooLarge);
     }
-    Answer::Value(number_at(prepared, negative, significand, place))
+    NumberAnswer::Value(number_at(prepared, negative, significand, place))
 }

@@ -7,13 +7,13 @@ ghost use mathlib.Core.Bool.{true};
 ghost use Prim.Native.Nat.{_≤_};
 ghost use lib.IntN.{pos, _+ℤ_};
 ghost use Rattle.format.specs.Formats.{exponentsAdmitted};
-ghost use Rattle.number.specs.Entry.{Usable};
-ghost use Rattle.number.specs.Numbers.{member, placeOf};
+ghost use Rattle.number.specs.Checks.{Operand};
+ghost use Rattle.number.specs.Numbers.{placeOf};
 ghost use Rattle.number.specs.Exponents.{aboveZero, belowZero};
 
 // The place of x: how far its exponent lies above emin.
 pub fn place_of(prepared: Prepared, x: Number) -> u32
-    requires { ⌜ Usable prepared × (member (prepared .format) x ≡ true) ⌝ }
+    requires { ⌜ Operand prepared x ⌝ }
     ensures { λ r. ⌜ r ≡ placeOf (prepared .format) x ⌝ }
 {
     distance(prepared.format.emin, x.exponent)

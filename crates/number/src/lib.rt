@@ -1,6 +1,6 @@
 // Numbers of a format: which are in it, the checks that every call begins with, comparison, negation and magnitude.
+pub mod checks;
 pub mod delivery;
-pub mod entry;
 pub mod exponents;
 pub mod members;
 pub mod order;
@@ -18,15 +18,20 @@ pub struct Number {
 }
 
 // A number, or why there is none.
-pub enum Answer {
+pub enum NumberAnswer {
     Value(Number),
     Refused(Refusal),
 }
 
 // How the first of two numbers stands to the second.
-pub enum Ordered {
+pub enum Ordering {
     Less,
     Equal,
     Greater,
+}
+
+// That order, or why there is none.
+pub enum OrderAnswer {
+    Ordered(Ordering),
     Refused(Refusal),
 }

@@ -1,10 +1,11 @@
 // A number with its sign turned, and without its sign.
-use crate::Answer;
 use crate::Number;
-use crate::entry::enter;
+use crate::NumberAnswer;
+use crate::checks::enter;
 use format::Format;
 use format::Preparation;
 ghost use mathlib.Core.Path.{_≡_};
+ghost use Rattle.number.specs.Answers.{numberGiven};
 ghost use Rattle.number.specs.Signs.{withSign, signedAnswer, negated, unsigned};
 
 // x with the sign `negative`; zero stays plus.
@@ -28,25 +29,25 @@ pub fn with_sign(x: Number, negative: bool) -> Number
 }
 
 // x with the sign `negative`, after the checks. Refuses 1, 3.
-fn answer_signed(format: Format, x: Number, negative: bool) -> Answer
-    ensures { λ r. ⌜ r ≡ signedAnswer format x negative ⌝ }
+fn answer_signed(format: Format, x: Number, negative: bool) -> NumberAnswer
+    ensures { λ r. ⌜ numberGiven r ≡ signedAnswer format x negative ⌝ }
 {
     match enter(format, x) {
-        Preparation::Refused(why) => Answer::Refused(why),
-        Preparation::Ready(_) => Answer::Value(with_sign(x, negative)),
+        Preparation::Refused(why) => NumberAnswer::Refused(why),
+        Preparation::Ready(_) => NumberAnswer::Value(with_sign(x, negative)),
     }
 }
 
 // -x. Refuses 1, 3.
-pub fn negate(format: Format, x: Number) -> Answer
-    ensures { λ r. ⌜ r ≡ negated format x ⌝ }
+pub fn negate(format: Format, x: Number) -> NumberAnswer
+    ensures { λ r. ⌜ numberGiven r ≡ negated format x ⌝ }
 {
     answer_signed(format, x, !x.negative)
 }
 
 // |x|. Refuses 1, 3.
-pub fn magnitude(format: Format, x: Number) -> Answer
-    ensures { λ r. ⌜ r ≡ unsigned format x ⌝ }
+pub fn magnitude(format: Format, x: Number) -> NumberAnswer
+    ensures { λ r. ⌜ numberGiven r ≡ unsigned format x ⌝ }
 {
     answer_signed(format, x, false)
 }

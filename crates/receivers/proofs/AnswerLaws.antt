@@ -1,18 +1,9 @@
 -- The answers in the request's words: the ends of a call, each with its condition; the entries of a stretch; and no influence of the
 -- patterns outside it.
-use Prim.Native.Nat.{ℕ, _+_, _-_, _≤_, _<_, min}
-use mathlib.Core.Path.{_≡_, refl, sym, ap, subst, _∙_}
-use mathlib.Core.Bool.{Bool, true, false, cond}
-use mathlib.Core.List.{List, []}
-use mathlib.Core.Logic.{_⊎_, inl, inr}
-use native.Mathlib.Omega.{arith}
-use native.Mathlib.Decide.{decLe}
-use lib.Dec.{eqb}
-use lib.IntN.{ℤ, pos, _-ℤ_}
-use lib.ListN.{length, getD, drop, length-take, length-drop}
+use Rattle.theory.proofs.Prelude.{ℕ, _≤_, _<_, _+_, _-_, true, false, Bool, cond, [], List, inl, inr, _⊎_, _∙_, ap, _≡_, sym, refl, subst, decLe, arith, eqb, ℤ, pos, _-ℤ_, length, getD, drop, length-drop, leZ, eq-eqb, le-leb, leb-false, eqb-true}
+use Prim.Native.Nat.{min}
+use lib.ListN.{length-take}
 use lib.Seq.{getD-take, getD-drop, ext-getD}
-use lib.Signed.{leZ}
-use borrow.Author.Tests.{eqb-true, eq-eqb, leb-false, le-leb}
 use Rattle.theory.specs.Tests.{_and_, unless}
 use Rattle.theory.specs.Lists.{firstWhere, none}
 use Rattle.theory.proofs.Tests.{never}
@@ -25,13 +16,13 @@ use Rattle.receivers.specs.declared.StretchCheck.{StretchCheck}
 use Rattle.receivers.specs.declared.StretchCheck.the-variants as check
 use Rattle.receivers.specs.declared.Calmer.{Calmer}
 use Rattle.receivers.specs.declared.Calmer.the-variants as calmer
-use Rattle.receivers.specs.Answers.{checkGiven, calmerGiven}
+use Rattle.receivers.specs.Answers.{stretchGiven, calmerGiven}
 use Rattle.receivers.specs.Stretches.{greatestOf, leastOf, spread, calmAs, stretch, notRefused, endsWithin, finiteWithin, calmerRefusal, calmerLog, stretchOf, calmerStretch}
 use Rattle.receivers.proofs.ExtremeLaws.{Extreme, Downto, greatest-is, least-is}
 use Rattle.receivers.proofs.Refusals.{ends, stretch-length, not-refused, not-refused-at}
 
 -- ---- what a caller has of an answer
-pub check-passed : (r : StretchCheck) → checkGiven r ≡ notRefused → r ≡ check.Passed
+pub check-passed : (r : StretchCheck) → stretchGiven r ≡ notRefused → r ≡ check.Passed
 check-passed check.Passed h = refl
 check-passed (check.Refused why) h = absurd (not-refused (sym h))
 check-passed (check.RefusedAt why index) h = absurd (not-refused-at (sym h))

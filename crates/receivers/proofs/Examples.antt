@@ -1,7 +1,5 @@
 -- The definitions on small logs: equality, a difference that rounding would lose, and a stretch whose end is past 2 ^ 64.
-use Prim.Native.Nat.{ℕ, _^_, _-_}
-use mathlib.Core.Path.{_≡_, refl}
-use mathlib.Core.List.{[], _∷_}
+use Rattle.theory.proofs.Prelude.{ℕ, _^_, _-_, [], _∷_, _≡_, refl}
 use Rattle.theory.specs.Tests.{_and_, unless}
 use Rattle.theory.specs.Lists.{firstWhere, none}
 use Rattle.format.specs.Given.{refused, refusedAt}

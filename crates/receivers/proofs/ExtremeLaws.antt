@@ -1,12 +1,5 @@
 -- The greatest and the least in words: values of the list that no value of it passes.
-use Prim.Native.Nat.{ℕ, zero, suc, _≤_, _<_}
-use mathlib.Core.Path.{_≡_, refl}
-use mathlib.Core.Bool.{Bool, true, false, cond}
-use mathlib.Core.List.{List, [], _∷_}
-use native.Mathlib.Omega.{arith}
-use lib.IntN.{ℤ, pos}
-use lib.ListN.{length, getD}
-use lib.Signed.{ltZ}
+use Rattle.theory.proofs.Prelude.{ℕ, _≤_, _<_, suc, zero, true, false, Bool, cond, [], _∷_, List, _≡_, refl, arith, ℤ, pos, length, getD, ltZ}
 use Rattle.format.proofs.Signed.{Upto, lt-true, lt-false}
 use Rattle.receivers.specs.Stretches.{greater, lesser, greatestFrom, leastFrom, greatestOf, leastOf}
 

@@ -1,13 +1,6 @@
 -- What the code finds of a stretch, in the terms of the definitions: the refusals in their order, what passed, and the log that is named.
-use Prim.Native.Nat.{ℕ, _+_, _-_, _≤_, _<_}
-use mathlib.Core.Path.{_≡_, refl, sym, ap, ap₂, _∙_}
-use mathlib.Core.Bool.{Bool, true, false, not, cond}
-use mathlib.Core.List.{List}
-use native.Mathlib.Omega.{arith}
-use lib.Dec.{leb, eqb}
-use lib.ListN.{length, take, drop, length-drop}
+use Rattle.theory.proofs.Prelude.{ℕ, _≤_, _<_, _+_, _-_, true, false, Bool, cond, not, List, _∙_, ap, _≡_, sym, refl, ap₂, arith, eqb, leb, length, drop, take, length-drop, ne-eqb, eq-eqb, le-leb, leb-true, lt-leb, eqb-true}
 use lib.Seq.{length-take-le}
-use borrow.Author.Tests.{eq-eqb, ne-eqb, le-leb, lt-leb, leb-true, eqb-true}
 use Rattle.theory.specs.Tests.{_and_, unless}
 use Rattle.theory.specs.Lists.{firstWhere, none}
 use Rattle.theory.proofs.Tests.{and-left, and-right, and-made, refuted, unless-passed, unless-failed, denied, granted}

@@ -1,14 +1,6 @@
 -- The extremes of a list as the code finds them, and spreads compared by sums.
-use Prim.Native.Nat.{ℕ, _+_, _≤_, _<_}
-use mathlib.Core.Path.{_≡_, refl, sym, ap, ap₂, _∙_}
-use mathlib.Core.Bool.{Bool, true, false, cond}
-use mathlib.Core.List.{List, [], _∷_}
-use native.Mathlib.Omega.{arith}
-use native.Mathlib.Numerals.{add-one}
-use lib.IntN.{ℤ, _+ℤ_, _-ℤ_}
-use lib.ListN.{length, getD, drop, drop-of-length-le}
-use lib.Seq.{drop-cons}
-use lib.Signed.{leZ, ltZ}
+use Rattle.theory.proofs.Prelude.{ℕ, _≤_, _<_, _+_, true, false, Bool, cond, [], _∷_, List, _∙_, ap, _≡_, sym, refl, ap₂, add-one, arith, ℤ, _+ℤ_, _-ℤ_, length, getD, drop, drop-cons, ltZ, leZ}
+use lib.ListN.{drop-of-length-le}
 use Rattle.theory.proofs.Integers.{sum-parts, diff-parts}
 use Rattle.format.proofs.Signed.{le-true, le-false}
 use Rattle.binary32.specs.Patterns.{finite, patternValue, patternValues}

@@ -8,10 +8,10 @@ use Rattle.receivers.specs.declared.Calmer.{Calmer}
 use Rattle.receivers.specs.declared.Calmer.the-variants as calmer
 use Rattle.receivers.specs.Stretches.{notRefused}
 
-abbrev pub checkGiven : StretchCheck → Given Unit
-checkGiven check.Passed = notRefused
-checkGiven (check.Refused why) = refused (refusalNumber why)
-checkGiven (check.RefusedAt why index) = refusedAt (refusalNumber why) index
+abbrev pub stretchGiven : StretchCheck → Given Unit
+stretchGiven check.Passed = notRefused
+stretchGiven (check.Refused why) = refused (refusalNumber why)
+stretchGiven (check.RefusedAt why index) = refusedAt (refusalNumber why) index
 
 -- the logs are numbered 1 and 2
 abbrev pub calmerGiven : Calmer → Given ℕ

@@ -5,7 +5,7 @@ use crate::spread::is_calm_as;
 use binary32::finite::first_not_finite;
 use format::Refusal;
 ghost use mathlib.Core.Path.{_≡_};
-ghost use Rattle.receivers.specs.Answers.{checkGiven, calmerGiven};
+ghost use Rattle.receivers.specs.Answers.{stretchGiven, calmerGiven};
 ghost use Rattle.receivers.specs.Stretches.{endsWithin, finiteWithin, calmerRefusal, calmerLog, calmerStretch};
 ghost use Rattle.receivers.specs.Spreads.{Contains};
 
@@ -28,7 +28,7 @@ fn ends_within(log: &[u32], start: usize, length: usize) -> bool
 // Refuses 9 within the stretch, with its index in the log.
 fn check_finite(log: &[u32], start: usize, length: usize) -> StretchCheck
     requires { ⌜ Contains (now log) start length ⌝ }
-    ensures { λ r. ⌜ checkGiven r ≡ finiteWithin (now (log .entry)) start length ⌝ }
+    ensures { λ r. ⌜ stretchGiven r ≡ finiteWithin (now (log .entry)) start length ⌝ }
 {
     let bad = first_not_finite(&log[start..start + length]);
     if bad < length {
@@ -39,7 +39,7 @@ fn check_finite(log: &[u32], start: usize, length: usize) -> StretchCheck
 
 // Refuses 11, 17, and 9 within the stretch with its index in the log, the first log before the second.
 pub fn calmer_refusal(first: &[u32], second: &[u32], start: usize, length: usize) -> StretchCheck
-    ensures { λ r. ⌜ checkGiven r ≡ calmerRefusal (now (first .entry)) (now (second .entry)) start length ⌝ }
+    ensures { λ r. ⌜ stretchGiven r ≡ calmerRefusal (now (first .entry)) (now (second .entry)) start length ⌝ }
 {
     if first.len() != second.len() {
         return StretchCheck::Refused(Refusal::LengthsDiffer);

@@ -1,9 +1,5 @@
 -- What a scale says of its base and digits.
-use Prim.Native.Nat.{ℕ, suc, _^_, _+_, _*_, _-_, _≤_, _<_}
-use mathlib.Core.Path.{_≡_, sym, ap, ap₂, _∙_}
-use native.Mathlib.Nat.{mul-le-mul, mul-le-mul-right, pow-le-pow-left, mul-le-mul-left, pow-succ', pow-suc, pow-zero, lt-of-not-le, le-of-suc-le-suc}
-use native.Mathlib.Numerals.{add-one}
-use native.Mathlib.Omega.{arith}
+use Rattle.theory.proofs.Prelude.{ℕ, _≤_, _<_, _+_, _^_, _*_, _-_, suc, _∙_, ap, _≡_, sym, ap₂, mul-le-mul-right, mul-le-mul-left, pow-zero, pow-succ', mul-le-mul, le-of-suc-le-suc, lt-of-not-le, pow-suc, pow-le-pow-left, add-one, arith}
 use Rattle.theory.specs.Place.{Positional}
 use Rattle.theory.proofs.Powers.{pow-add, pow-pred, pow-mono, pow-le-cancel}
 use Rattle.format.specs.declared.Scale.{Scale}

@@ -1,15 +1,10 @@
 -- Figure 1, line by line: under its premise no line passes the greatest number, so each gives the theory's value.
-use Prim.Native.Nat.{ℕ, zero, suc, _+_, _*_, _-_, _^_, _≤_, _<_}
-use mathlib.Core.Path.{_≡_, refl, sym, ap, _∙_}
-use native.Mathlib.Nat.{le-trans, mul-le-mul-left, mul-le-mul-right}
-use native.Mathlib.Decide.{decLe}
-use native.Mathlib.Omega.{arith}
-use lib.IntN.{ℤ, pos, natAbs}
+use Rattle.theory.proofs.Prelude.{ℕ, _≤_, _<_, _+_, _^_, _*_, _-_, suc, zero, _∙_, ap, _≡_, sym, refl, decLe, mul-le-mul-right, mul-le-mul-left, le-trans, arith, ℤ, pos, natAbs}
 use Rattle.theory.specs.Place.{Positional, place}
 use Rattle.theory.specs.Neighbours.{lower}
 use Rattle.theory.specs.declared.Direction.the-variants.{TowardZero}
 use Rattle.theory.specs.Units.{ufp}
-use Rattle.theory.specs.Rump.{sum, difference, product, below-one, scaled-up, ufp-toward-zero}
+use Rattle.theory.specs.Rump.{sum, difference, product, belowOne, scaledUp, ufpByFigure1}
 use Rattle.theory.proofs.Powers.{pow-add, pow-pos, pow-mono, pow-pred}
 use Rattle.theory.proofs.Wide.{wide-phi}
 use Rattle.theory.proofs.Neighbours.{lower-exact}
@@ -19,22 +14,23 @@ use Rattle.theory.proofs.FirstPlace.{scaled, below-one-is, scaled-up-is, scaled
 use Rattle.format.specs.declared.Format.{Format}
 use Rattle.format.specs.Formats.{highestPlace}
 use Rattle.format.proofs.Formats.{positional}
-use Rattle.number.specs.declared.Answer.{Answer}
+use Rattle.number.specs.declared.Number.{Number}
 use Rattle.number.specs.Exponents.{belowZero}
 use Rattle.number.specs.Numbers.{greatest}
-use Rattle.rump.specs.Figures.{one, plus, times, power, belowOne, scaledUp, figure1}
+use Rattle.arithmetic.specs.Operations.{roundedSum, roundedDifference, roundedProduct}
+use Rattle.rump.specs.Figures.{one, power, subrealmin, figure1}
 use Rattle.rump.proofs.Reach.{First, one-positive, power-most, constant-most}
-use Rattle.rump.proofs.Lines.{Line, sum-line, difference-line, product-line, subrealmin-line, power-line, one-line}
+use Rattle.rump.proofs.Lines.{Has, Line, sum-line, difference-line, product-line, subrealmin-has, power-has, one-has}
 
 -- the values of its lines, in units
 abbrev p1 : Format → ℤ
-p1 f = below-one (f .base) (f .digits) (one f)
+p1 f = belowOne (f .base) (f .digits) (one f)
 
 abbrev phi : Format → ℕ
 phi f = (f .base ^ (f .digits - 1) + 1) * one f
 
 abbrev q : Format → ℕ → ℤ
-q f n = scaled-up (f .base) (f .digits) (one f) n
+q f n = scaledUp (f .base) (f .digits) (one f) n
 
 abbrev shrunk : Format → ℕ → ℤ
 shrunk f n = product (f .base) (f .digits) TowardZero (one f) (p1 f) (q f n)
@@ -57,9 +53,9 @@ module _ {f : Format} {n : ℕ} (k : First f n) where
       let within = power-most (k .admits) (f .digits + spare) (omega (arith, k .reach .low, k .reach .span)) in
       rw (one-is, below-one-is ok spare) (omega (arith, mul-le-mul-right (f .base ^ spare) digits, pow-add (f .base) (f .digits) spare, within))
 
-  p1-line : Line f (belowOne f) (p1 f)
-  unfolding belowOne below-one
-  p1-line = difference-line (k .admits) TowardZero (one-line (k .admits) (k .reach)) (subrealmin-line (k .admits)) refl p1-most
+  p1-line : Line f (roundedDifference f TowardZero (power f 0) (subrealmin f)) (p1 f)
+  unfolding belowOne
+  p1-line = difference-line (k .admits) TowardZero (one-has (k .admits) (k .reach)) (subrealmin-has (k .admits)) refl p1-most
 
   -- ---- line 3, φ = β ^ (p - 1) + 1
   phi-most : phi f ≤ greatest f
@@ -74,9 +70,9 @@ module _ {f : Format} {n : ℕ} (k : First f n) where
       sum-toward-zero ok (f .base ^ (f .digits - 1) * one f) (one f)
       ∙ ap pos (ap (lower (f .base) (f .digits)) (omega arith) ∙ lower-exact ok (phi f) (wide-phi ok (belowZero (f .emin))))
 
-  phi-line : Line f (plus f TowardZero (power f (f .digits - 1)) (power f 0)) (pos (phi f))
+  phi-line : Line f (roundedSum f TowardZero (power f (f .digits - 1)) (power f 0)) (pos (phi f))
   phi-line =
-      sum-line (k .admits) TowardZero (power-line (k .admits) (k .reach) (f .digits - 1) (omega arith)) (one-line (k .admits) (k .reach)) phi-is phi-most
+      sum-line (k .admits) TowardZero (power-has (k .admits) (k .reach) (f .digits - 1) (omega arith)) (one-has (k .admits) (k .reach)) phi-is phi-most
 
   -- ---- line 4, q = φ f
   ufp-most : ufp (f .base) n ≤ f .base ^ (highestPlace f - f .digits)
@@ -104,22 +100,25 @@ module _ {f : Format} {n : ℕ} (k : First f n) where
       omega (arith, scaled-up-most ok n, mul-le-mul-left (f .base ^ f .digits) ufp-most, power-most (k .admits) (highestPlace f) (omega arith))
 
   first-is : difference (f .base) (f .digits) TowardZero (q f n) (shrunk f n) ≡ pos (ufp (f .base) n)
-  unfolding ufp-toward-zero
+  unfolding ufpByFigure1
   first-is = rw one-is (ufp-toward-zero-is ok spare n)
 
-  module _ {x : Answer} (h : Line f x (pos n)) where
-    q-line : Line f (scaledUp f x) (q f n)
-    unfolding scaledUp scaled-up
+  module _ {x : Number} (h : Has f x (pos n)) where
+    q-line : Line f (roundedProduct f TowardZero (phi-line .number) x) (q f n)
+    unfolding scaledUp
     q-line =
-        product-line (k .admits) TowardZero phi-line h (k .reach .not-above) refl (rw (scaled-up-is ok (one f) n (one-positive (k .admits))) scaled-most)
+        product-line (k .admits) TowardZero (phi-line .has) h (k .reach .not-above) refl
+        (rw (scaled-up-is ok (one f) n (one-positive (k .admits))) scaled-most)
 
     -- ---- line 5, p1 q and S = q - p1 q
-    shrunk-line : Line f (times f TowardZero (belowOne f) (scaledUp f x)) (shrunk f n)
+    shrunk-line : Line f (roundedProduct f TowardZero (p1-line .number) (q-line .number)) (shrunk f n)
     shrunk-line =
-        product-line (k .admits) TowardZero p1-line q-line (k .reach .not-above) refl (rw (one-is, shrunk-is ok spare n) (omega (arith, scaled-most)))
+        product-line (k .admits) TowardZero (p1-line .has) (q-line .has) (k .reach .not-above) refl
+        (rw (one-is, shrunk-is ok spare n) (omega (arith, scaled-most)))
 
     pub figure1-line : Line f (figure1 f x) (pos (ufp (f .base) n))
     unfolding figure1
     figure1-line =
         let within = power-most (k .admits) (highestPlace f - f .digits) (omega arith) in
-        difference-line (k .admits) TowardZero q-line shrunk-line first-is (omega (arith, ufp-most, within))
+        rw (p1-line .is, phi-line .is, q-line .is, shrunk-line .is)
+        (difference-line (k .admits) TowardZero (q-line .has) (shrunk-line .has) first-is (omega (arith, ufp-most, within)))

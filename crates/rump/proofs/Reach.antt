@@ -1,12 +1,5 @@
 -- The premises of the routes, as facts on natural numbers that `omega` reads: the constants of the figures are within the format.
-use Prim.Native.Nat.{ℕ, _+_, _*_, _-_, _^_, _≤_, _<_}
-use mathlib.Core.Path.{_≡_, refl, sym, subst, _∙_}
-use mathlib.Core.Bool.{Bool, true, false, not}
-use native.Mathlib.Nat.{mul-one, mul-le-mul-right, pow-zero}
-use native.Mathlib.Omega.{arith}
-use lib.Dec.{leb, ltb, eqb}
-use lib.IntN.{pos, negℤ, _-ℤ_}
-use borrow.Author.Tests.{leb-true, leb-false, ltb-true, lt-ltb, le-ltb, eqb-true, eqb-false, ne-eqb}
+use Rattle.theory.proofs.Prelude.{ℕ, _≤_, _<_, _+_, _^_, _*_, _-_, true, false, Bool, not, _∙_, _≡_, sym, refl, subst, mul-le-mul-right, pow-zero, mul-one, arith, eqb, leb, ltb, pos, _-ℤ_, negℤ, ne-eqb, leb-true, leb-false, eqb-true, le-ltb, lt-ltb, ltb-true, eqb-false}
 use Rattle.theory.specs.Tests.{_and_}
 use Rattle.theory.specs.Wide.{Wide}
 use Rattle.theory.proofs.Tests.{and-left, and-right, and-made, not-true, refuted}
@@ -19,7 +12,7 @@ use Rattle.format.proofs.Signed.{apart, le-true, make-le}
 use Rattle.format.proofs.Formats.{Admitted, distances}
 use Rattle.number.specs.declared.Number.{Number}
 use Rattle.number.specs.Exponents.{aboveZero, belowZero}
-use Rattle.number.specs.Entry.{Usable}
+use Rattle.number.specs.Checks.{Usable}
 use Rattle.number.specs.Numbers.{member, magnitude, greatest}
 use Rattle.number.proofs.Membership.{members, known}
 use Rattle.number.proofs.Values.{member-wide, member-greatest}
@@ -149,12 +142,3 @@ last-by f x h some most = rw (h, ne-eqb (magnitude f x) 0 (λ e. omega arith), _
     go : (t : Bool) → eqb (magnitude f x) (greatest f) ≡ t → ltb (magnitude f x) (greatest f) ≡ not t
     go true e = let n : magnitude f x ≡ greatest f = eqb-true _ _ e in le-ltb (magnitude f x) (greatest f) (omega arith)
     go false e = let n : (magnitude f x ≡ greatest f → ⊥) = eqb-false _ _ e in lt-ltb (magnitude f x) (greatest f) (omega arith)
-
--- the premises ask for the magnitude alone
-pub first-same : (f : Format) (x y : Number) → magnitude f y ≡ magnitude f x → firstPremise f x ≡ true → firstPremise f y ≡ true
-unfolding firstPremise
-first-same f x y e h = rw e h
-
-pub last-same : (f : Format) (x y : Number) → magnitude f y ≡ magnitude f x → lastPremise f x ≡ true → lastPremise f y ≡ true
-unfolding lastPremise
-last-same f x y e h = rw e h

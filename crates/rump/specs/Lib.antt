@@ -2,4 +2,3 @@
 pub mod Premises
 pub mod Figures
 pub mod Routes
-pub mod Steps

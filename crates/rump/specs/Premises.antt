@@ -1,14 +1,17 @@
 -- The premises of Rump's routes, as document 01 decides them.
 use Prim.Native.Nat.{_^_, _+_, _-_}
-use mathlib.Core.Bool.{Bool, not}
+use mathlib.Core.Path.{_≡_}
+use mathlib.Core.Bool.{Bool, true, not}
 use lib.Dec.{ltb, eqb}
 use lib.IntN.{pos, negℤ}
 use lib.Signed.{leZ}
 use Rattle.theory.specs.Tests.{_and_}
 use Rattle.format.specs.declared.Format.{Format}
+use Rattle.format.specs.declared.Prepared.{Prepared}
 use Rattle.format.specs.Formats.{highestPlace}
 use Rattle.number.specs.declared.Number.{Number}
-use Rattle.number.specs.Numbers.{magnitude, greatest}
+use Rattle.number.specs.Numbers.{member, magnitude, greatest}
+use Rattle.number.specs.Checks.{Usable}
 use Rattle.rump.specs.declared.Figure.{Figure}
 use Rattle.rump.specs.declared.Figure.the-variants.{First, Third, Fourth, Fifth}
 
@@ -30,3 +33,9 @@ premiseOf First f x = firstPremise f x
 premiseOf Third f x = lastPremise f x
 premiseOf Fourth f x = lastPremise f x
 premiseOf Fifth f x = lastPremise f x
+
+-- what a figure's function is handed: a format that keeps the premise, prepared, and a number of it
+pub record Run (q : Prepared) (x : Number) : Type 0 where
+  pub usable : Usable q
+  pub kept : premise (q .format) ≡ true
+  pub number : member (q .format) x ≡ true

@@ -3,55 +3,75 @@
 use crate::Figure;
 use crate::constants::power;
 use crate::constants::subrealmin;
-use crate::operations::difference;
-use crate::operations::product;
-use crate::operations::sum;
+use arithmetic::product::multiply;
+use arithmetic::sum::add;
+use arithmetic::sum::subtract;
 use format::Format;
 use format::Prepared;
-use number::Answer;
 use number::Number;
-use number::Ordered;
+use number::NumberAnswer;
+use number::Ordering;
 use number::order::compare_values;
 use theory::Direction;
 ghost use mathlib.Core.Path.{_≡_};
 ghost use mathlib.Core.Bool.{true};
 ghost use Rattle.format.specs.Formats.{admitted};
+ghost use Rattle.number.specs.Answers.{numberGiven};
+ghost use Rattle.number.specs.Checks.{Operands};
 ghost use Rattle.number.specs.Numbers.{equalZ, member, value};
 ghost use Rattle.rump.specs.Figures as figures;
 ghost use Rattle.rump.specs.Figures.{figure1, figure3, figure4, figure5};
+ghost use Rattle.rump.specs.Premises.{Run};
 ghost use Rattle.rump.specs.Routes.{figureOf};
-ghost use Rattle.rump.specs.Steps.{Run, isLine};
 
 // Figure 1: p1 = 1 - subrealmin, phi = base^(p - 1) + 1, q = phi * x, S = q - p1 * q.
-fn first_figure(prepared: Prepared, x: Answer) -> Answer
+fn first_figure(prepared: Prepared, x: Number) -> NumberAnswer
     requires { ⌜ Run prepared x ⌝ }
-    ensures { λ r. ⌜ r ≡ figure1 (prepared .format) x ⌝ }
+    ensures { λ r. ⌜ numberGiven r ≡ figure1 (prepared .format) x ⌝ }
 {
     let one = power(prepared, 0);
-    let p1 = difference(prepared, Direction::TowardZero, one, subrealmin(prepared));
+    let below_one = subtract(prepared, Direction::TowardZero, one, subrealmin(prepared));
+    let NumberAnswer::Value(p1) = below_one else {
+        return below_one;
+    };
     let lead = power(prepared, prepared.scale.digits - 1);
-    let phi = sum(prepared, Direction::TowardZero, lead, one);
-    let q = product(prepared, Direction::TowardZero, phi, x);
-    let r = product(prepared, Direction::TowardZero, p1, q);
-    difference(prepared, Direction::TowardZero, q, r)
+    let factor = add(prepared, Direction::TowardZero, lead, one);
+    let NumberAnswer::Value(phi) = factor else {
+        return factor;
+    };
+    let scaled = multiply(prepared, Direction::TowardZero, phi, x);
+    let NumberAnswer::Value(q) = scaled else {
+        return scaled;
+    };
+    let shrunk = multiply(prepared, Direction::TowardZero, p1, q);
+    let NumberAnswer::Value(r) = shrunk else {
+        return shrunk;
+    };
+    subtract(prepared, Direction::TowardZero, q, r)
 }
 
-// Figure 3: S = (x + subrealmin) - x, rounded up.
-fn third_figure(prepared: Prepared, x: Answer) -> Answer
+// Figure 3: s = x + subrealmin, S = s - x, rounded up.
+fn third_figure(prepared: Prepared, x: Number) -> NumberAnswer
     requires { ⌜ Run prepared x ⌝ }
-    ensures { λ r. ⌜ r ≡ figure3 (prepared .format) x ⌝ }
+    ensures { λ r. ⌜ numberGiven r ≡ figure3 (prepared .format) x ⌝ }
 {
-    let next = sum(prepared, Direction::Upward, x, subrealmin(prepared));
-    difference(prepared, Direction::Upward, next, x)
+    let next = add(prepared, Direction::Upward, x, subrealmin(prepared));
+    let NumberAnswer::Value(s) = next else {
+        return next;
+    };
+    subtract(prepared, Direction::Upward, s, x)
 }
 
-// Figures 4 and 5, lines 3 and 4: S = x - (x - subrealmin), rounded toward zero.
-fn gap(prepared: Prepared, x: Answer) -> Answer
+// Figures 4 and 5, lines 3 and 4: p = x - subrealmin, S = x - p.
+fn gap(prepared: Prepared, x: Number) -> NumberAnswer
     requires { ⌜ Run prepared x ⌝ }
-    ensures { λ r. ⌜ (r ≡ figures.gap (prepared .format) x) × (isLine (prepared .format) r ≡ true) ⌝ }
+    ensures { λ r. ⌜ numberGiven r ≡ figures.gap (prepared .format) x ⌝ }
 {
-    let preceding = difference(prepared, Direction::TowardZero, x, subrealmin(prepared));
-    difference(prepared, Direction::TowardZero, x, preceding)
+    let preceding = subtract(prepared, Direction::TowardZero, x, subrealmin(prepared));
+    let NumberAnswer::Value(p) = preceding else {
+        return preceding;
+    };
+    subtract(prepared, Direction::TowardZero, x, p)
 }
 
 // Do two numbers have the same value?
@@ -60,58 +80,75 @@ fn is_same(format: Format, a: Number, b: Number) -> bool
     ensures { λ r. ⌜ r ≡ equalZ (value format a) (value format b) ⌝ }
 {
     match compare_values(format, a, b) {
-        Ordered::Less => false,
-        Ordered::Equal => true,
-        Ordered::Greater => false,
-        Ordered::Refused(_) => false,
+        Ordering::Less => false,
+        Ordering::Equal => true,
+        Ordering::Greater => false,
     }
 }
 
 // Figure 4: S * base where x + S gives x, and S elsewhere.
-fn fourth_figure(prepared: Prepared, x: Answer) -> Answer
+fn fourth_figure(prepared: Prepared, x: Number) -> NumberAnswer
     requires { ⌜ Run prepared x ⌝ }
-    ensures { λ r. ⌜ r ≡ figure4 (prepared .format) x ⌝ }
+    ensures { λ r. ⌜ numberGiven r ≡ figure4 (prepared .format) x ⌝ }
 {
-    let s = gap(prepared, x);
-    let raised = sum(prepared, Direction::TowardZero, x, s);
-    let Answer::Value(a) = raised else {
+    let below = gap(prepared, x);
+    let NumberAnswer::Value(s) = below else {
+        return below;
+    };
+    let raised = add(prepared, Direction::TowardZero, x, s);
+    let NumberAnswer::Value(next) = raised else {
         return raised;
     };
-    let Answer::Value(b) = x else {
-        return x;
-    };
-    if is_same(prepared.format, a, b) {
-        return product(prepared, Direction::TowardZero, s, power(prepared, 1));
+    if is_same(prepared.format, next, x) {
+        return multiply(prepared, Direction::TowardZero, s, power(prepared, 1));
     }
-    s
+    below
 }
 
 // Figure 5, line 5: d = ((x + S) - x) - S.
-fn defect(prepared: Prepared, x: Answer, s: Answer) -> Answer
-    requires { ⌜ Run prepared x × (s ≡ figures.gap (prepared .format) x) × (isLine (prepared .format) s ≡ true) ⌝ }
-    ensures { λ r. ⌜ (r ≡ figures.defect (prepared .format) x) × (isLine (prepared .format) r ≡ true) ⌝ }
+fn defect(prepared: Prepared, x: Number, s: Number) -> NumberAnswer
+    requires { ⌜ Operands prepared x s ⌝ }
+    ensures { λ r. ⌜ numberGiven r ≡ figures.defect (prepared .format) x s ⌝ }
 {
-    let next = sum(prepared, Direction::TowardZero, x, s);
-    let back = difference(prepared, Direction::TowardZero, next, x);
-    difference(prepared, Direction::TowardZero, back, s)
+    let raised = add(prepared, Direction::TowardZero, x, s);
+    let NumberAnswer::Value(next) = raised else {
+        return raised;
+    };
+    let lowered = subtract(prepared, Direction::TowardZero, next, x);
+    let NumberAnswer::Value(back) = lowered else {
+        return lowered;
+    };
+    subtract(prepared, Direction::TowardZero, back, s)
 }
 
 // Figure 5: S - (base - 1) * d.
-fn fifth_figure(prepared: Prepared, x: Answer) -> Answer
+fn fifth_figure(prepared: Prepared, x: Number) -> NumberAnswer
     requires { ⌜ Run prepared x ⌝ }
-    ensures { λ r. ⌜ r ≡ figure5 (prepared .format) x ⌝ }
+    ensures { λ r. ⌜ numberGiven r ≡ figure5 (prepared .format) x ⌝ }
 {
-    let s = gap(prepared, x);
-    let d = defect(prepared, x, s);
+    let below = gap(prepared, x);
+    let NumberAnswer::Value(s) = below else {
+        return below;
+    };
+    let off = defect(prepared, x, s);
+    let NumberAnswer::Value(d) = off else {
+        return off;
+    };
     let base = power(prepared, 1);
-    let factor = difference(prepared, Direction::TowardZero, base, power(prepared, 0));
-    let correction = product(prepared, Direction::TowardZero, factor, d);
-    difference(prepared, Direction::TowardZero, s, correction)
+    let factor = subtract(prepared, Direction::TowardZero, base, power(prepared, 0));
+    let NumberAnswer::Value(b) = factor else {
+        return factor;
+    };
+    let correction = multiply(prepared, Direction::TowardZero, b, d);
+    let NumberAnswer::Value(c) = correction else {
+        return correction;
+    };
+    subtract(prepared, Direction::TowardZero, s, c)
 }
 
-pub fn run(figure: Figure, prepared: Prepared, x: Answer) -> Answer
+pub fn run(figure: Figure, prepared: Prepared, x: Number) -> NumberAnswer
     requires { ⌜ Run prepared x ⌝ }
-    ensures { λ r. ⌜ r ≡ figureOf figure (prepared .format) x ⌝ }
+    ensures { λ r. ⌜ numberGiven r ≡ figureOf figure (prepared .format) x ⌝ }
 {
     match figure {
         Figure::First => first_figure(prepared, x),

@@ -1,7 +1,6 @@
 // Rump's routes: the first place and the last place of a number by the engine's own operations alone.
 mod constants;
 mod figures;
-mod operations;
 mod premises;
 pub mod routes;
 

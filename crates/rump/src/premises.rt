@@ -3,7 +3,7 @@ use crate::Figure;
 use format::Format;
 use format::Prepared;
 use number::Number;
-use number::Ordered;
+use number::Ordering;
 use number::delivery::number_at;
 use number::exponents::above_zero;
 use number::exponents::below_zero;
@@ -13,7 +13,7 @@ ghost use mathlib.Core.Path.{_≡_};
 ghost use mathlib.Core.Bool.{true};
 ghost use lib.Dec.{ltb};
 ghost use Rattle.format.specs.Formats.{admitted};
-ghost use Rattle.number.specs.Entry.{Usable};
+ghost use Rattle.number.specs.Checks.{Usable, Operand};
 ghost use Rattle.number.specs.Numbers.{member, magnitude};
 ghost use Rattle.rump.specs.Premises.{premise, firstPremise, lastPremise, premiseOf};
 
@@ -35,16 +35,15 @@ fn is_smaller(format: Format, x: Number, bound: Number) -> bool
     ensures { λ r. ⌜ r ≡ ltb (magnitude format x) (magnitude format bound) ⌝ }
 {
     match compare_magnitudes(format, x, bound) {
-        Ordered::Less => true,
-        Ordered::Equal => false,
-        Ordered::Greater => false,
-        Ordered::Refused(_) => false,
+        Ordering::Less => true,
+        Ordering::Equal => false,
+        Ordering::Greater => false,
     }
 }
 
 // Figure 1 takes x below base^(Emax - p + 1).
 fn first_premise(prepared: Prepared, x: Number) -> bool
-    requires { ⌜ Usable prepared × (member (prepared .format) x ≡ true) ⌝ }
+    requires { ⌜ Operand prepared x ⌝ }
     ensures { λ r. ⌜ r ≡ firstPremise (prepared .format) x ⌝ }
 {
     if !exponents_suffice(prepared) {
@@ -57,7 +56,7 @@ fn first_premise(prepared: Prepared, x: Number) -> bool
 
 // Figures 3, 4 and 5 take x that is neither zero nor the greatest number.
 fn last_premise(prepared: Prepared, x: Number) -> bool
-    requires { ⌜ Usable prepared × (member (prepared .format) x ≡ true) ⌝ }
+    requires { ⌜ Operand prepared x ⌝ }
     ensures { λ r. ⌜ r ≡ lastPremise (prepared .format) x ⌝ }
 {
     if !exponents_suffice(prepared) {
@@ -72,7 +71,7 @@ fn last_premise(prepared: Prepared, x: Number) -> bool
 }
 
 pub fn premise_holds(figure: Figure, prepared: Prepared, x: Number) -> bool
-    requires { ⌜ Usable prepared × (member (prepared .format) x ≡ true) ⌝ }
+    requires { ⌜ Operand prepared x ⌝ }
     ensures { λ r. ⌜ r ≡ premiseOf figure (prepared .format) x ⌝ }
 {
     match figure {

@@ -1,12 +1,5 @@
 -- The checks of a list in their order, and what a list that passed them has.
-use Prim.Native.Nat.{ℕ, _≤_, _<_}
-use mathlib.Core.Path.{_≡_, refl, sym, ap, _∙_}
-use mathlib.Core.Bool.{Bool, true, false, not}
-use mathlib.Core.List.{List}
-use native.Mathlib.Omega.{arith}
-use lib.Dec.{leb}
-use lib.ListN.{length}
-use borrow.Author.Tests.{le-leb, lt-leb, leb-true, not-true}
+use Rattle.theory.proofs.Prelude.{ℕ, _≤_, _<_, true, false, Bool, not, List, _∙_, ap, _≡_, sym, refl, arith, leb, length, le-leb, leb-true, lt-leb, not-true}
 use Rattle.theory.specs.Lists.{firstWhere, none}
 use Rattle.theory.specs.Tests.{_and_, unless}
 use Rattle.theory.proofs.Tests.{and-left, and-right, and-made, unless-passed, unless-failed}
@@ -14,7 +7,7 @@ use Rattle.format.specs.Given.{gives, refused, refusedAt, _then_}
 use Rattle.binary32.specs.Patterns.{finite, notFinite, patternValue, patternValues}
 use Rattle.saved_lines.specs.declared.Check.{Check}
 use Rattle.saved_lines.specs.Offsets.{nearest, descends, repeats}
-use Rattle.saved_lines.specs.Lines.{Examination, passed, checked, patternsChecked, orderChecked, linesChecked, Checked, nearestLine}
+use Rattle.saved_lines.specs.Lines.{Examination, passed, checked, patternsChecked, ascentChecked, linesChecked, Checked, nearestLine}
 
 -- ---- the refusals, one after the other
 module _ (l : List ℕ) (t : Bool) where
@@ -45,20 +38,20 @@ module _ (l : List ℕ) (t : Bool) where
       bad-number f = sym (unless-passed _ _ length-passed ∙ unless-passed _ _ patterns-passed ∙ unless-failed _ _ f)
 
       -- the order is what is left
-      by-order : t ≡ true → orderChecked l ≡ linesChecked l t
+      by-order : t ≡ true → ascentChecked l ≡ linesChecked l t
       unfolding linesChecked patternsChecked
       by-order f = sym (unless-passed _ _ length-passed ∙ unless-passed _ _ patterns-passed ∙ unless-passed _ _ f)
 
       pub bad-order : t ≡ true → descends (patternValues l) ≡ true → refused 13 ≡ linesChecked l t
-      unfolding orderChecked
+      unfolding ascentChecked
       bad-order f d = sym (unless-failed _ _ (ap not d)) ∙ by-order f
 
       pub bad-neighbours : t ≡ true → descends (patternValues l) ≡ false → repeats (patternValues l) ≡ true → refused 15 ≡ linesChecked l t
-      unfolding orderChecked
+      unfolding ascentChecked
       bad-neighbours f d r = sym (unless-passed _ _ (ap not d) ∙ unless-failed _ _ (ap not r)) ∙ by-order f
 
       pub all-passed : t ≡ true → descends (patternValues l) ≡ false → repeats (patternValues l) ≡ false → passed ≡ linesChecked l t
-      unfolding orderChecked
+      unfolding ascentChecked
       all-passed f d r = sym (unless-passed _ _ (ap not d) ∙ unless-passed _ _ (ap not r)) ∙ by-order f
 
 -- ---- what passed
@@ -75,7 +68,7 @@ pub not-refused-at : {n i : ℕ} → _≡_ {A = Examination} (refusedAt n i) pas
 not-refused-at e = let z : _≡_ {A = ℕ} 0 1 = cc in omega arith
 
 pub passed-checks : (l : List ℕ) (t : Bool) → linesChecked l t ≡ passed → Checked l × (t ≡ true)
-unfolding linesChecked patternsChecked orderChecked
+unfolding linesChecked patternsChecked ascentChecked
 passed-checks l t h =
     let a = went-on (leb 1 (length l) and leb (length l) 4096) h not-refused in
     let b = went-on (none notFinite l) (a .1) not-refused-at in
@@ -100,7 +93,7 @@ nearest-after l q e f = ap (λ (x : Examination). x then (λ _. gives (nearest (
 
 -- and of a list that passed them
 pub checked-passes : (l : List ℕ) (q : ℕ) → Checked l → finite q ≡ true → nearestLine l q ≡ gives (nearest (patternValues l) (patternValue q))
-unfolding nearestLine linesChecked patternsChecked orderChecked
+unfolding nearestLine linesChecked patternsChecked ascentChecked
 checked-passes l q c f = ap (λ (x : Examination). x then (λ _. gives (nearest (patternValues l) (patternValue q)))) all
   where
     all : linesChecked l (finite q) ≡ passed

@@ -1,11 +1,5 @@
 -- Exact distances from a query: on natural numbers, and by the sum of two numbers against twice the query.
-use Prim.Native.Nat.{_+_, _≤_, _<_}
-use mathlib.Core.Path.{_≡_, sym, ap, _∙_}
-use mathlib.Core.Bool.{Bool, true, false, not}
-use native.Mathlib.Omega.{arith}
-use lib.IntN.{ℤ, _+ℤ_, _-ℤ_}
-use lib.Signed.{leZ, ltZ}
-use borrow.Author.Tests.{ltb-true, ltb-false, lt-ltb, le-ltb}
+use Rattle.theory.proofs.Prelude.{_≤_, _<_, _+_, true, false, Bool, not, _∙_, ap, _≡_, sym, arith, ℤ, _+ℤ_, _-ℤ_, ltZ, leZ, le-ltb, lt-ltb, ltb-true, ltb-false}
 use Rattle.theory.proofs.Integers.{above, below, sum-parts, diff-parts, size-by, parts-eq}
 use Rattle.theory.proofs.Multiples.{dist}
 use Rattle.theory.proofs.Tests.{denied}

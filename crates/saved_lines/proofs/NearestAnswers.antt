@@ -1,13 +1,5 @@
 -- What nearest_line answers, in the words of requests 2 and 7.
-use Prim.Native.Nat.{ℕ, _≤_, _<_, _^_}
-use mathlib.Core.Path.{_≡_}
-use mathlib.Core.Bool.{true}
-use mathlib.Core.List.{List}
-use mathlib.Core.Logic.{_≢_}
-use native.Mathlib.Omega.{arith}
-use lib.IntN.{ℤ}
-use lib.ListN.{length}
-use lib.Signed.{_<ℤ_}
+use Rattle.theory.proofs.Prelude.{ℕ, _≤_, _<_, _^_, true, List, _≢_, _≡_, arith, ℤ, length, _<ℤ_}
 use Rattle.format.specs.Given.{Given, gives}
 use Rattle.binary32.specs.Patterns.{finite, patternValue, patternValues}
 use Rattle.binary32.proofs.PatternValues.{value-at, values-length}

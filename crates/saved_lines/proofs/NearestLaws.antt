@@ -1,16 +1,6 @@
 -- The nearest line in the words of requests 2 and 7: it is a position of the list, no line is nearer, at equal distance the smaller
 -- offset wins, and at most one other line is as near.
-use Prim.Native.Nat.{ℕ, zero, suc, _+_, _-_, _≤_, _<_}
-use mathlib.Core.Path.{_≡_, refl, sym, ap, _∙_}
-use mathlib.Core.Bool.{Bool, true, false, not}
-use mathlib.Core.List.{List, [], _∷_}
-use mathlib.Core.Logic.{_≢_, ⊎-elim}
-use native.Mathlib.Nat.{eq-or-lt-of-le}
-use native.Mathlib.Omega.{arith}
-use native.Mathlib.Decide.{decLe}
-use lib.IntN.{ℤ, pos}
-use lib.ListN.{length}
-use lib.Signed.{_<ℤ_}
+use Rattle.theory.proofs.Prelude.{ℕ, _≤_, _<_, _+_, _-_, suc, zero, true, false, Bool, not, [], _∷_, List, ⊎-elim, _≢_, _∙_, ap, _≡_, sym, refl, decLe, eq-or-lt-of-le, arith, ℤ, pos, length, _<ℤ_}
 use Rattle.theory.specs.Tests.{_and_}
 use Rattle.theory.proofs.Integers.{above, below, parts-lt, lt-parts, parts-eq}
 use Rattle.theory.proofs.Lists.{first-is, first-before, first-passes, first-position, none-at, none-made, neighbours-made, neighbours-fail}

@@ -1,12 +1,5 @@
 -- What a list of patterns says of the list of its values: whether it descends or repeats, and what a list that passed the checks has.
-use Prim.Native.Nat.{ℕ, suc, _≤_, _<_}
-use mathlib.Core.Path.{_≡_, sym, ap₂, _∙_}
-use mathlib.Core.Bool.{Bool, true, false, not}
-use mathlib.Core.List.{List}
-use native.Mathlib.Omega.{arith}
-use lib.IntN.{pos}
-use lib.ListN.{length, getD}
-use lib.Signed.{ltZ}
+use Rattle.theory.proofs.Prelude.{ℕ, _≤_, _<_, suc, true, false, Bool, not, List, _∙_, _≡_, sym, ap₂, arith, pos, length, getD, ltZ}
 use Rattle.theory.specs.Tests.{_and_}
 use Rattle.theory.proofs.Lists.{neighbours-made, no-neighbours}
 use Rattle.format.proofs.Signed.{Upto}

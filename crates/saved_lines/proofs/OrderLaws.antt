@@ -1,16 +1,6 @@
 -- The order of request 8: the definition's list has what was found, each entry is nearer than the next or as near with the smaller
 -- offset, and the first is the line of request 2.
-use Prim.Native.Nat.{ℕ, zero, suc, _+_, _≤_, _<_}
-use mathlib.Core.Path.{_≡_, refl, sym, ap, subst, _∙_}
-use mathlib.Core.Bool.{Bool, true, false, cond}
-use mathlib.Core.List.{List, [], _∷_, map}
-use mathlib.Core.Logic.{_≢_, _⊎_, inl, inr, ⊎-elim}
-use native.Mathlib.Nat.{eq-or-lt-of-le}
-use native.Mathlib.Omega.{arith}
-use native.Mathlib.Decide.{decLe}
-use lib.IntN.{ℤ, pos}
-use lib.ListN.{length, getD}
-use lib.Signed.{_<ℤ_}
+use Rattle.theory.proofs.Prelude.{ℕ, _≤_, _<_, _+_, suc, zero, true, false, Bool, cond, [], _∷_, List, map, ⊎-elim, inl, inr, _⊎_, _≢_, _∙_, ap, _≡_, sym, refl, subst, decLe, eq-or-lt-of-le, arith, ℤ, pos, length, getD, _<ℤ_}
 use Rattle.theory.proofs.Integers.{parts-lt, lt-parts}
 use Rattle.binary32.specs.Patterns.{patternValue, patternValues}
 use Rattle.binary32.proofs.PatternValues.{values-length}

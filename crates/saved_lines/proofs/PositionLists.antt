@@ -1,12 +1,5 @@
 -- Lists of positions: those of the entries that pass a test, a range of them, and lists that are the same up to their order.
-use Prim.Native.Nat.{ℕ, zero, suc, _+_, _≤_, _<_}
-use mathlib.Core.Path.{_≡_, refl, sym, ap, subst, _∙_}
-use mathlib.Core.Logic.{_≢_}
-use mathlib.Core.Bool.{Bool, true, false, cond}
-use mathlib.Core.List.{List, [], _∷_, _++_}
-use native.Mathlib.Nat.{add-zero, le-antisymm}
-use native.Mathlib.Omega.{arith}
-use lib.ListN.{length, getD}
+use Rattle.theory.proofs.Prelude.{ℕ, _≤_, _<_, _+_, suc, zero, true, false, Bool, cond, [], _∷_, List, _++_, _≢_, _∙_, ap, _≡_, sym, refl, subst, le-antisymm, add-zero, arith, length, getD}
 use Rattle.saved_lines.specs.Positions.{without}
 use Rattle.saved_lines.specs.Positions.{positionsFrom, range, Among, Lists}
 

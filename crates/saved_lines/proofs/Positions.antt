@@ -1,10 +1,5 @@
 -- The position that the code of the nearest line finds.
-use Prim.Native.Nat.{ℕ, _-_, _≤_, _<_}
-use mathlib.Core.Path.{_≡_, sym, _∙_}
-use mathlib.Core.Bool.{Bool, true, false}
-use mathlib.Core.List.{List}
-use native.Mathlib.Omega.{arith}
-use lib.ListN.{length, getD}
+use Rattle.theory.proofs.Prelude.{ℕ, _≤_, _<_, _-_, true, false, Bool, List, _∙_, _≡_, sym, arith, length, getD}
 use Rattle.theory.specs.Lists.{firstWhere}
 use Rattle.theory.proofs.Lists.{first-before, first-most}
 use Rattle.format.proofs.Signed.{Upto, Under}

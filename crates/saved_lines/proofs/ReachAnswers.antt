@@ -1,14 +1,5 @@
 -- What lines_within answers and writes, in the words of request 5.
-use Prim.Native.Nat.{ℕ, _+_, _≤_, _<_}
-use mathlib.Core.Path.{_≡_, refl, sym, ap, subst, _∙_}
-use mathlib.Core.Bool.{Bool, true, false}
-use mathlib.Core.List.{List, []}
-use native.Mathlib.Omega.{arith}
-use lib.Dec.{leb}
-use lib.IntN.{ℤ, pos}
-use lib.ListN.{length}
-use lib.Signed.{leZ, _≤ℤ_, _<ℤ_}
-use borrow.Author.Tests.{leb-true, leb-false, le-leb}
+use Rattle.theory.proofs.Prelude.{ℕ, _≤_, _<_, _+_, true, false, Bool, [], List, _∙_, ap, _≡_, sym, refl, subst, arith, leb, ℤ, pos, length, leZ, _<ℤ_, _≤ℤ_, le-leb, leb-true, leb-false}
 use Rattle.theory.specs.Tests.{_and_, unless}
 use Rattle.theory.proofs.Integers.{above, below, parts-le, parts-eq, le-parts, lt-parts}
 use Rattle.theory.proofs.Tests.{unless-passed}

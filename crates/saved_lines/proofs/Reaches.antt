@@ -1,15 +1,5 @@
 -- The lines within reach stand side by side, from the first that reaches the query up to the first beyond it.
-use Prim.Native.Nat.{ℕ, _+_, _-_, _≤_, _<_}
-use mathlib.Core.Path.{_≡_, refl, sym, ap, _∙_}
-use mathlib.Core.Bool.{Bool, true, false, not}
-use mathlib.Core.List.{List}
-use native.Mathlib.Decide.{decLe}
-use native.Mathlib.Omega.{arith}
-use lib.Dec.{leb}
-use lib.IntN.{ℤ, pos, _+ℤ_}
-use lib.ListN.{length, getD}
-use lib.Signed.{leZ}
-use borrow.Author.Tests.{not-true, not-false, le-leb, lt-leb}
+use Rattle.theory.proofs.Prelude.{ℕ, _≤_, _<_, _+_, _-_, true, false, Bool, not, List, _∙_, ap, _≡_, sym, refl, decLe, arith, leb, ℤ, pos, _+ℤ_, length, getD, leZ, le-leb, lt-leb, not-true, not-false}
 use Rattle.theory.specs.Lists.{firstWhere}
 use Rattle.theory.specs.Tests.{_and_, unless}
 use Rattle.theory.proofs.Lists.{first-before, first-most}

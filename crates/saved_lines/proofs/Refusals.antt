@@ -1,16 +1,5 @@
 -- What the checks turn away, in their order: each refusal with what holds where it comes and no earlier one does.
-use Prim.Native.Nat.{ℕ, suc, _≤_, _<_}
-use mathlib.Core.Path.{_≡_, refl, sym, _∙_}
-use mathlib.Core.Bool.{Bool, true, false, not}
-use mathlib.Core.List.{List}
-use mathlib.Core.Logic.{_⊎_, inl, inr}
-use native.Mathlib.Decide.{decLe}
-use native.Mathlib.Omega.{arith}
-use lib.Dec.{leb}
-use lib.IntN.{ℤ, pos}
-use lib.ListN.{length, getD}
-use lib.Signed.{ltZ, _≤ℤ_, _<ℤ_}
-use borrow.Author.Tests.{leb-true, leb-false, le-leb, not-true}
+use Rattle.theory.proofs.Prelude.{ℕ, _≤_, _<_, suc, true, false, Bool, not, List, inl, inr, _⊎_, _∙_, _≡_, sym, refl, decLe, arith, leb, ℤ, pos, length, getD, ltZ, _<ℤ_, _≤ℤ_, le-leb, leb-true, leb-false, not-true}
 use Rattle.theory.specs.Lists.{firstWhere, none}
 use Rattle.theory.specs.Tests.{_and_, unless}
 use Rattle.theory.proofs.Integers.{parts-le, parts-lt, parts-eq}
@@ -21,7 +10,7 @@ use Rattle.format.proofs.Signed.{lt-true, lt-false}
 use Rattle.binary32.specs.Patterns.{finite, notFinite, patternValue, patternValues}
 use Rattle.binary32.proofs.PatternValues.{finite-made, finite-fails, all-finite, value-at, values-length}
 use Rattle.saved_lines.specs.Offsets.{at, falls, descends, equals, repeats}
-use Rattle.saved_lines.specs.Lines.{passed, patternsChecked, orderChecked, linesChecked, Checked}
+use Rattle.saved_lines.specs.Lines.{passed, patternsChecked, ascentChecked, linesChecked, Checked}
 use Rattle.saved_lines.proofs.NearestLaws.{descends-made, repeats-made}
 
 -- the offset at a position of a list of patterns
@@ -131,7 +120,7 @@ module _ (l : List ℕ) where
 -- what follows the checks, if nothing is turned away
 pub checks-end : {A : Type 0} (l : List ℕ) (t : Bool) (next : Unit {0} → Given A) (E : Given A → Type 0)
     → ((x : Given A) → TurnedAway l t x → E x) → (Checked l → t ≡ true → E (next tt)) → E (linesChecked l t then next)
-unfolding linesChecked patternsChecked orderChecked unless
+unfolding linesChecked patternsChecked ascentChecked unless
 checks-end l t next E away go-on = by (leb 1 (length l) and leb (length l) 4096) (none notFinite l) t (descends (patternValues l)) (repeats (patternValues l)) refl refl refl refl refl
   where
     by : (a b c d r : Bool) → leb 1 (length l) and leb (length l) 4096 ≡ a → none notFinite l ≡ b → t ≡ c → descends (patternValues l) ≡ d → repeats (patternValues l) ≡ r

@@ -1,11 +1,5 @@
 -- What nearest_lines answers and writes, in the words of request 12.
-use Prim.Native.Nat.{ℕ, _+_, _*_, _≤_, _<_}
-use mathlib.Core.Path.{_≡_, refl, sym, _∙_}
-use mathlib.Core.Bool.{Bool, true, false, not}
-use mathlib.Core.List.{List}
-use lib.Dec.{leb, eqb}
-use lib.ListN.{length, getD}
-use borrow.Author.Tests.{leb-true, le-leb, eqb-true, eq-eqb}
+use Rattle.theory.proofs.Prelude.{ℕ, _≤_, _<_, _+_, _*_, true, false, Bool, not, List, _∙_, _≡_, sym, refl, eqb, leb, length, getD, eq-eqb, le-leb, leb-true, eqb-true}
 use Rattle.theory.specs.Lists.{firstWhere, none}
 use Rattle.theory.specs.Tests.{_and_, unless}
 use Rattle.theory.proofs.Tests.{never, and-left, and-right, and-made}

@@ -1,11 +1,5 @@
 -- The checks of a row in their order, and its answers.
-use Prim.Native.Nat.{ℕ, _≤_, _<_}
-use mathlib.Core.Path.{_≡_, sym, ap, _∙_}
-use mathlib.Core.Bool.{true, false, not}
-use mathlib.Core.List.{List}
-use native.Mathlib.Omega.{arith}
-use lib.ListN.{length}
-use borrow.Author.Tests.{le-leb, lt-leb, eq-eqb, ne-eqb, not-true}
+use Rattle.theory.proofs.Prelude.{ℕ, _≤_, _<_, true, false, not, List, _∙_, ap, _≡_, sym, arith, length, ne-eqb, eq-eqb, le-leb, lt-leb, not-true}
 use Rattle.theory.specs.Lists.{firstWhere, none}
 use Rattle.theory.specs.Tests.{_and_}
 use Rattle.theory.proofs.Tests.{and-made, unless-passed, unless-failed}

@@ -1,15 +1,6 @@
 -- A row of queries on exact values: the walk finds the nearest line of what is left, which is the nearest of all where the queries ascend;
 -- and how many lines are looked at.
-use Prim.Native.Nat.{ℕ, zero, suc, _+_, _-_, _*_, _≤_, _<_}
-use mathlib.Core.Path.{_≡_, refl, sym, ap, subst, _∙_}
-use mathlib.Core.Bool.{true, false}
-use mathlib.Core.List.{List, [], _∷_}
-use mathlib.Core.Logic.{⊎-elim}
-use native.Mathlib.Nat.{eq-or-lt-of-le}
-use native.Mathlib.Omega.{arith}
-use native.Mathlib.Decide.{decLe}
-use lib.IntN.{ℤ, pos}
-use lib.ListN.{length, drop, length-drop}
+use Rattle.theory.proofs.Prelude.{ℕ, _≤_, _<_, _+_, _*_, _-_, suc, zero, true, false, [], _∷_, List, ⊎-elim, _∙_, ap, _≡_, sym, refl, subst, decLe, eq-or-lt-of-le, arith, ℤ, pos, length, drop, length-drop}
 use lib.Seq.{getD-drop}
 use Rattle.theory.proofs.Integers.{above, below}
 use Rattle.format.proofs.Signed.{Upto, Under}

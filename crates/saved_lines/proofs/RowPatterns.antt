@@ -1,14 +1,7 @@
 -- A row of queries on lists of patterns: what the walk and the loop over the queries go by.
-use Prim.Native.Nat.{ℕ, zero, suc, _+_, _-_, _*_, _≤_, _<_}
-use mathlib.Core.Path.{_≡_, refl, sym, ap, ap₂, _∙_}
-use mathlib.Core.Bool.{Bool, true, false}
-use mathlib.Core.List.{List, [], _∷_, _++_, map, append-nil}
+use Rattle.theory.proofs.Prelude.{ℕ, _≤_, _<_, _+_, _*_, _-_, suc, zero, true, false, Bool, [], _∷_, List, _++_, append-nil, map, _∙_, ap, _≡_, sym, refl, ap₂, add-one, arith, ℤ, pos, length, getD, drop, take, set, length-drop, length-map, drop-cons, drop-length, take-all}
 use native.Mathlib.Nat.{zero-add}
-use native.Mathlib.Numerals.{add-one}
-use native.Mathlib.Omega.{arith}
-use lib.IntN.{ℤ, pos}
-use lib.ListN.{length, getD, take, drop, set, length-drop, length-map}
-use lib.Seq.{getD-drop, take-all, drop-length, length-take-le, drop-cons, take-suc, append-snoc, set-at}
+use lib.Seq.{getD-drop, length-take-le, take-suc, append-snoc, set-at}
 use Rattle.theory.specs.Lists.{none, someNeighbours}
 use Rattle.theory.proofs.Lists.{none-at, none-made, neighbours-fail, no-neighbours}
 use Rattle.format.proofs.Signed.{Upto}

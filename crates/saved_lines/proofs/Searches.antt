@@ -1,13 +1,5 @@
 -- The tests of a binary search: on a list that ascends they pass from some position on.
-use Prim.Native.Nat.{ℕ, _+_, _≤_, _<_}
-use mathlib.Core.Path.{_≡_, refl, sym, ap, _∙_}
-use mathlib.Core.Bool.{Bool, true, false, not}
-use mathlib.Core.List.{List}
-use native.Mathlib.Omega.{arith}
-use lib.IntN.{ℤ, _+ℤ_}
-use lib.ListN.{length, getD}
-use lib.Signed.{leZ, ltZ}
-use borrow.Author.Tests.{not-true, not-false}
+use Rattle.theory.proofs.Prelude.{ℕ, _≤_, _<_, _+_, true, false, Bool, not, List, _∙_, ap, _≡_, sym, refl, arith, ℤ, _+ℤ_, length, getD, ltZ, leZ, not-true, not-false}
 use Rattle.theory.specs.Lists.{firstWhere}
 use Rattle.theory.specs.Tests.{_and_}
 use Rattle.theory.proofs.Integers.{sum-parts}

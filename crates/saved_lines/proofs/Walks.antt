@@ -1,13 +1,6 @@
 -- The walk outward: the nearest of the positions that are left stands at the inner end of one of the two ranges.
-use Prim.Native.Nat.{ℕ, zero, suc, _+_, _-_, _≤_, _<_}
-use mathlib.Core.Path.{_≡_, refl, sym, ap, ap₂, _∙_}
-use mathlib.Core.Bool.{Bool, true, false}
-use mathlib.Core.List.{List, [], _∷_, _++_, map, append-nil}
-use native.Mathlib.Omega.{arith}
-use native.Mathlib.Decide.{decLe}
-use native.Mathlib.Numerals.{add-one}
-use lib.IntN.{ℤ}
-use lib.ListN.{length, getD, take, drop, set, length-map, length-append, length-set, take-append-drop}
+use Rattle.theory.proofs.Prelude.{ℕ, _≤_, _<_, _+_, _-_, suc, zero, true, false, Bool, [], _∷_, List, _++_, append-nil, map, _∙_, ap, _≡_, sym, refl, ap₂, decLe, add-one, arith, ℤ, length, getD, drop, take, set, length-map}
+use lib.ListN.{length-append, length-set, take-append-drop}
 use lib.Seq.{getD-at, getD-append-add, take-suc-set, drop-set-lt, drop-drop}
 use Rattle.theory.proofs.Integers.{above, below}
 use Rattle.binary32.specs.Patterns.{patternValue, patternValues}

@@ -18,10 +18,10 @@ use Rattle.saved_lines.specs.Offsets.{nearest, nearestFirst, isWithin, d
 use Rattle.saved_lines.specs.Positions.{positionsWhere}
 
 -- ---- the answers in the requests' numbers
-abbrev pub given : LineAnswer → Given ℕ
-given (answer.Found n) = gives n
-given (answer.Refused why) = refused (refusalNumber why)
-given (answer.RefusedAt why index) = refusedAt (refusalNumber why) index
+abbrev pub lineGiven : LineAnswer → Given ℕ
+lineGiven (answer.Found n) = gives n
+lineGiven (answer.Refused why) = refused (refusalNumber why)
+lineGiven (answer.RefusedAt why index) = refusedAt (refusalNumber why) index
 
 -- an examination passes or is refused
 abbrev pub Examination : Type 0
@@ -41,14 +41,14 @@ unfoldable pub patternsChecked : (l : List ℕ) → Examination → Examination
 patternsChecked l go-on = unless (none notFinite l) (refusedAt 9 (firstWhere notFinite l)) go-on
 
 -- 13 for a list that descends somewhere, then 15 for two equal neighbours
-unfoldable pub orderChecked : List ℕ → Examination
-orderChecked l = unless (not (descends (patternValues l))) (refused 13) (unless (not (repeats (patternValues l))) (refused 15) passed)
+unfoldable pub ascentChecked : List ℕ → Examination
+ascentChecked l = unless (not (descends (patternValues l))) (refused 13) (unless (not (repeats (patternValues l))) (refused 15) passed)
 
 -- 12 for a list that is empty or longer than 4,096, 9 for its patterns, 9 for the numbers beside it, 13, 15
 unfoldable pub linesChecked : (l : List ℕ) (finite : Bool) → Examination
 linesChecked l finite =
     unless (leb 1 (length l) and leb (length l) 4096) (refused 12)
-    (patternsChecked l (unless finite (refused 9) (orderChecked l)))
+    (patternsChecked l (unless finite (refused 9) (ascentChecked l)))
 
 -- a list that passed them
 pub record Checked (l : List ℕ) : Type 0 where

@@ -1,12 +1,9 @@
 -- Laws of uls: it divides n, and no greater power of β does.
-use Prim.Native.Nat.{ℕ, zero, suc, _^_, _+_, _*_, _-_, _%_, _≤_, _<_}
-use mathlib.Core.Path.{_≡_, sym, ap}
-use mathlib.Core.Bool.{Bool, true, false, not}
-use native.Mathlib.Nat.{add-suc, mod-eq-of-lt, lt-of-not-le, le-of-suc-le-suc, le-antisymm, mul-le-mul-left}
-use native.Mathlib.Omega.{arith}
-use lib.Dec.{T, eqb, eqb→eq}
+use Rattle.theory.proofs.Prelude.{ℕ, _≤_, _<_, _+_, _^_, _*_, _-_, suc, zero, _%_, true, false, Bool, not, ap, _≡_, sym, mul-le-mul-left, le-antisymm, le-of-suc-le-suc, lt-of-not-le, add-suc, arith, eqb, T}
+use native.Mathlib.Nat.{mod-eq-of-lt}
+use lib.Dec.{eqb→eq}
 use mir.Facts.{eqb-no}
-use Rattle.theory.specs.Units.{uls, zeros, search-zeros}
+use Rattle.theory.specs.Units.{uls, zeros, searchZeros}
 use Rattle.theory.proofs.Powers.{pow-pos, pow-mono, pow-add, below-pow}
 use Rattle.theory.proofs.Multiples.{Multiple, multiple-pow, multiple-one, multiple-mod, mod-multiple, multiple-times, multiple-cancel}
 
@@ -21,13 +18,13 @@ module _ {β : ℕ} (hβ : 2 ≤ β) where
       let below : n < β ^ suc k = omega (arith, below-pow hβ n, pow-mono hβ {i = n} {j = suc k} (omega arith)) in
       omega (arith, mod-eq-of-lt below, multiple-mod m)
 
-  found : (n fuel k : ℕ) → 1 ≤ n → n ≤ k + fuel → Multiple (β ^ k) n → Ends β n (search-zeros β n fuel k)
-  unfolding search-zeros
+  found : (n fuel k : ℕ) → 1 ≤ n → n ≤ k + fuel → Multiple (β ^ k) n → Ends β n (searchZeros β n fuel k)
+  unfolding searchZeros
   found n zero k hn h m = record { multiple = m; no-more = too-high n k hn (omega arith) }
   found n (suc fuel) k hn h m = by (eqb (n % β ^ suc k) 0) (eqb→eq _ _) (λ t. eqb-no t) (found n fuel (suc k) hn (omega arith))
     where
-      by : (b : Bool) → (T b → n % β ^ suc k ≡ 0) → (T (not b) → n % β ^ suc k ≡ 0 → ⊥) → (Multiple (β ^ suc k) n → Ends β n (search-zeros β n fuel (suc k)))
-          → Ends β n (elim b [ true ↦ search-zeros β n fuel (suc k) | false ↦ k ])
+      by : (b : Bool) → (T b → n % β ^ suc k ≡ 0) → (T (not b) → n % β ^ suc k ≡ 0 → ⊥) → (Multiple (β ^ suc k) n → Ends β n (searchZeros β n fuel (suc k)))
+          → Ends β n (elim b [ true ↦ searchZeros β n fuel (suc k) | false ↦ k ])
       by true f g ih = ih (mod-multiple n (f tt))
       by false f g ih = record { multiple = m; no-more = λ l. g tt (multiple-mod l) }
 

@@ -1,5 +1,6 @@
 -- The laws of the definitions in specs/, lowest first. A crate above cites a file as Rattle.theory.proofs.NAME.
 -- numbers, places and the wide format
+pub mod Prelude
 pub mod Tests
 pub mod Lists
 pub mod Powers
@@ -27,4 +28,3 @@ pub mod FastTwoSum
 pub mod Operations
 pub mod FirstPlace
 pub mod LastPlace
-pub mod Examples

@@ -1,14 +1,5 @@
 -- Laws of a list and a test, for every test.
-use Prim.Native.Nat.{ℕ, zero, suc, _+_, _-_, _≤_, _<_}
-use mathlib.Core.Path.{_≡_, refl, sym, ap, subst, _∙_}
-use mathlib.Core.Logic.{⊎-elim}
-use native.Mathlib.Nat.{eq-or-lt-of-le}
-use mathlib.Core.Bool.{Bool, true, false, cond}
-use mathlib.Core.List.{List, [], _∷_}
-use native.Mathlib.Omega.{arith}
-use native.Mathlib.Decide.{decLe}
-use lib.ListN.{length, getD}
-use borrow.Author.Tests.{leb-true, le-leb}
+use Rattle.theory.proofs.Prelude.{ℕ, _≤_, _<_, _+_, _-_, suc, zero, true, false, Bool, cond, [], _∷_, List, ⊎-elim, _∙_, ap, _≡_, sym, refl, subst, decLe, eq-or-lt-of-le, arith, length, getD, le-leb, leb-true}
 use Rattle.theory.specs.Tests.{_and_, _or_}
 use Rattle.theory.proofs.Tests.{never, and-left, and-right, and-made}
 use Rattle.theory.specs.Lists.{all, firstWhere, none, someNeighbours}

@@ -1,9 +1,5 @@
 -- Laws of tests: what a test that passed or failed says, and how it is made.
-use mathlib.Core.Path.{_≡_, refl, sym}
-use mathlib.Core.Bool.{Bool, true, false, not}
-use mathlib.Core.Logic.{_⊎_, inl, inr}
-use Prim.Native.Nat.{ℕ}
-use native.Mathlib.Omega.{arith}
+use Rattle.theory.proofs.Prelude.{ℕ, true, false, Bool, not, inl, inr, _⊎_, _≡_, sym, refl, arith}
 use Rattle.theory.specs.Tests.{_and_, _or_, unless}
 
 -- true is not false

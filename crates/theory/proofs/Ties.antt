@@ -1,26 +1,16 @@
 -- Directions 0 and 1 at a tie, where the value lies exactly in the middle of its two neighbours, n and n + 1 times the step
 -- between them: direction 0 takes the even one of n and n + 1, direction 1 the one away from zero.
-use Prim.Native.Nat.{ℕ, _^_, _+_, _*_, _-_, _/_, _%_, _≤_, _<_}
-use mathlib.Core.Path.{_≡_, sym, ap, ap₂, _∙_}
-use mathlib.Core.Bool.{Bool}
-use native.Mathlib.Nat.{le-antisymm, le-trans, lt-of-le-of-lt, mul-pos, mul-div-cancel, le-div-iff-mul-le, mul-le-mul-right, le-of-mul-le-mul-right, lt-of-mul-lt-mul-right, div-mul-le-self}
-use native.Mathlib.Omega.{arith}
-use lib.Dec.{eqb}
-use borrow.Author.Tests.{eq-eqb, ne-eqb}
+use Rattle.theory.proofs.Prelude.{ℕ, _≤_, _<_, _+_, _^_, _*_, _-_, _%_, _/_, Bool, _∙_, ap, _≡_, sym, ap₂, mul-le-mul-right, mul-pos, le-trans, le-antisymm, lt-of-mul-lt-mul-right, le-div-iff-mul-le, le-of-mul-le-mul-right, mul-div-cancel, div-mul-le-self, arith, eqb, ne-eqb, eq-eqb}
+use native.Mathlib.Nat.{lt-of-le-of-lt}
 use Rattle.theory.specs.Place.{Positional, place, step}
 use Rattle.theory.specs.Wide.{Wide}
 use Rattle.theory.specs.Neighbours.{lowerQ, upperQ}
-use Rattle.theory.specs.Round.{Direction, NearestEven, NearestAway, Half, location, chosen, takes-upper, round}
+use Rattle.theory.specs.Round.{Direction, NearestEven, NearestAway, Half, location, chosen, takesUpper, round, Tie}
 use Rattle.theory.proofs.Multiples.{multiple-of, multiple-power, multiple-le, multiple-gap}
 use Rattle.theory.proofs.Place.{place-fits, place-mono, step-pos}
 use Rattle.theory.proofs.Wide.{wide-low, wide-multiple}
 use Rattle.theory.proofs.Neighbours.{lower-multiple, lowerQ-le, lowerQ-greatest, upperQ-wide, le-upperQ, upperQ-least}
 use Rattle.theory.proofs.Round.{location-is, middle}
-
--- N / D lies in the middle between n and n + 1 steps
-pub record Tie (β p N D n : ℕ) : Type 0 where
-  pub divisor : 1 ≤ D
-  pub halfway : 2 * N ≡ (2 * n + 1) * step β p (N / D) * D
 
 between : (N s D n : ℕ) → 1 ≤ s → 1 ≤ D → 2 * N ≡ (2 * n + 1) * s * D → (n * s * D < N) × (N < (n + 1) * s * D)
 between N s D n hs hD e = let some : 1 ≤ s * D = mul-pos hs hD in (omega arith, omega arith)
@@ -70,14 +60,14 @@ module _ {β p N D n : ℕ} (ok : Positional β p) (t : Tie β p N D n) where
 
   -- direction 0: the even one of n and n + 1
   pub tie-even : (negative : Bool) → n % 2 ≡ 0 → round β p NearestEven negative N D ≡ n * step β p (N / D)
-  unfolding round takes-upper chosen
+  unfolding round takesUpper chosen
   tie-even negative e = rw (located, parity, ne-eqb (n % 2) 1 (λ o. omega arith)) tie-lower
 
   pub tie-odd : (negative : Bool) → n % 2 ≡ 1 → round β p NearestEven negative N D ≡ (n + 1) * step β p (N / D)
-  unfolding round takes-upper chosen
+  unfolding round takesUpper chosen
   tie-odd negative e = rw (located, parity, eq-eqb (n % 2) 1 e) tie-upper
 
   -- direction 1: the one away from zero
   pub tie-away : (negative : Bool) → round β p NearestAway negative N D ≡ (n + 1) * step β p (N / D)
-  unfolding round takes-upper chosen
+  unfolding round takesUpper chosen
   tie-away negative = rw located tie-upper

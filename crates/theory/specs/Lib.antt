@@ -8,5 +8,4 @@ pub mod Units
 pub mod Round
 pub mod Signed
 pub mod Faithful
-pub mod FastTwoSum
 pub mod Rump

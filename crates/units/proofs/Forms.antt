@@ -1,10 +1,5 @@
 -- How the places and the neighbours of a number are written: a significand and a place, in canonical form.
-use Prim.Native.Nat.{ℕ, zero, suc, _^_, _+_, _*_, _-_, _≤_, _<_}
-use mathlib.Core.Path.{_≡_, refl, sym, ap, subst, _∙_}
-use mathlib.Core.Logic.{_⊎_, inl, inr, ⊎-elim}
-use native.Mathlib.Nat.{pow-zero, pow-succ', mul-le-mul-left, mul-le-mul-right, le-of-mul-le-mul-left}
-use native.Mathlib.Numerals.{add-one}
-use native.Mathlib.Omega.{arith}
+use Rattle.theory.proofs.Prelude.{ℕ, _≤_, _<_, _+_, _^_, _*_, _-_, suc, zero, ⊎-elim, inl, inr, _⊎_, _∙_, ap, _≡_, sym, refl, subst, mul-le-mul-right, mul-le-mul-left, pow-zero, pow-succ', le-of-mul-le-mul-left, add-one, arith}
 use Rattle.theory.specs.Place.{Positional}
 use Rattle.theory.specs.Wide.{Wide, Canonical}
 use Rattle.theory.specs.Units.{ufp, ulp}

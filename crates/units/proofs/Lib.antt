@@ -1,7 +1,6 @@
 -- Laws of places and neighbours.
 pub mod Forms
 pub mod Written
-pub mod Entered
 pub mod Sides
 pub mod NeighbourLaws
 pub mod PlaceLaws

@@ -1,12 +1,7 @@
 -- The places of a number of the format are numbers of the format, with the values that the theory's laws describe: ufp is the
 -- greatest power of β not above |x| (ufp-le, ufp-greatest), ulp is β ^ e (ulp-canonical), uls divides x and is the greatest power
 -- that does (uls-multiple, uls-greatest).
-use Prim.Native.Nat.{ℕ, zero, suc, _*_, _≤_}
-use mathlib.Core.Path.{_≡_}
-use mathlib.Core.Bool.{false}
-use native.Mathlib.Nat.{le-trans, zero-mul}
-use native.Mathlib.Omega.{arith}
-use lib.IntN.{pos}
+use Rattle.theory.proofs.Prelude.{ℕ, _≤_, _*_, suc, zero, false, _≡_, le-trans, zero-mul, arith, pos}
 use Rattle.theory.specs.Wide.{Wide}
 use Rattle.theory.specs.Units.{ufp, ulp, uls, zeros}
 use Rattle.theory.proofs.Wide.{wide-zero, wide-pow}
@@ -15,38 +10,30 @@ use Rattle.theory.proofs.LeastPlace.{uls-multiple}
 use Rattle.format.specs.declared.Format.{Format}
 use Rattle.format.proofs.Formats.{Admitted, positional}
 use Rattle.number.specs.declared.Number.{Number}
-use Rattle.number.specs.declared.Answer.{Answer}
-use Rattle.number.specs.declared.Answer.the-variants.{Value}
+use Rattle.format.specs.Given.{Given, gives, refused}
 use Rattle.number.specs.Numbers.{magnitude, value, number}
-use Rattle.number.proofs.Membership.{Member}
+use Rattle.number.proofs.Membership.{Member, member-made}
 use Rattle.number.proofs.Values.{member-greatest, number-member, number-value}
-use Rattle.units.specs.Places.{firstPlace, lastPlace, leastPlace}
-use Rattle.units.proofs.Entered.{checked}
-
--- a call answers a number of the format with the value n
-pub record Answers (f : Format) (answer : Answer) (n : ℕ) : Type 0 where
-  pub place : Number
-  pub is : answer ≡ Value place
-  pub number : Member f place
-  pub value-is : value f place ≡ pos n
+use Rattle.units.specs.Places.{firstPlace, lastPlace, leastPlace, GivesValue}
+use Rattle.number.proofs.CheckLaws.{one-checked}
 
 module _ {f : Format} {x : Number} (a : Admitted f) (i : Member f x) where
-  place-number : {answer : Answer} (n : ℕ) → answer ≡ Value (number f false n) → Wide (f .base) (f .digits) n → n ≤ magnitude f x → Answers f answer n
+  place-number : {answer : Given Number} (n : ℕ) → answer ≡ gives (number f false n) → Wide (f .base) (f .digits) n → n ≤ magnitude f x → GivesValue f answer n
   place-number n e w h =
       record {
-        place = number f false n;
+        given = number f false n;
         is = e;
-        number = number-member a w false (le-trans h (member-greatest a i));
+        number = member-made _ a (number-member a w false (le-trans h (member-greatest a i)));
         value-is = number-value a w false;
       }
 
-  pub ufp-answers : Answers f (firstPlace f x) (ufp (f .base) (magnitude f x))
+  pub ufp-answers : GivesValue f (firstPlace f x) (ufp (f .base) (magnitude f x))
   unfolding firstPlace
-  ufp-answers = place-number _ (checked a i) (ufp-wide (positional a) (magnitude f x)) (ufp-le (a .base-low) (magnitude f x))
+  ufp-answers = place-number _ (one-checked a i) (ufp-wide (positional a) (magnitude f x)) (ufp-le (a .base-low) (magnitude f x))
 
-  pub ulp-answers : Answers f (lastPlace f x) (ulp (f .base) (f .digits) (magnitude f x))
+  pub ulp-answers : GivesValue f (lastPlace f x) (ulp (f .base) (f .digits) (magnitude f x))
   unfolding lastPlace
-  ulp-answers = place-number _ (checked a i) (ulp-wide (positional a) (magnitude f x)) (ulp-le (positional a) (magnitude f x))
+  ulp-answers = place-number _ (one-checked a i) (ulp-wide (positional a) (magnitude f x)) (ulp-le (positional a) (magnitude f x))
 
   uls-wide : (n : ℕ) → Wide (f .base) (f .digits) (uls (f .base) n)
   unfolding uls
@@ -62,6 +49,6 @@ module _ {f : Format} {x : Number} (a : Admitted f) (i : Member f x) where
       by zero e = absurd (omega (arith, zero-mul (uls (f .base) (suc n))))
       by (suc t) e = omega arith
 
-  pub uls-answers : Answers f (leastPlace f x) (uls (f .base) (magnitude f x))
+  pub uls-answers : GivesValue f (leastPlace f x) (uls (f .base) (magnitude f x))
   unfolding leastPlace
-  uls-answers = place-number _ (checked a i) (uls-wide (magnitude f x)) (uls-le (magnitude f x))
+  uls-answers = place-number _ (one-checked a i) (uls-wide (magnitude f x)) (uls-le (magnitude f x))

@@ -1,13 +1,5 @@
 -- The neighbours of a number by its sign: away from zero on one side, toward zero on the other.
-use Prim.Native.Nat.{ℕ, zero, suc, _*_, _-_, _^_, _≤_}
-use mathlib.Core.Path.{_≡_, refl, sym, ap, _∙_}
-use mathlib.Core.Bool.{Bool, true, false}
-use mathlib.Core.List.{[], _∷_}
-use mathlib.Core.Logic.{_⊎_, inl, inr}
-use native.Mathlib.Nat.{zero-mul, mul-pos}
-use native.Mathlib.Omega.{arith}
-use lib.Dec.{leb}
-use lib.IntN.{ℤ, pos, negsuc, negℤ}
+use Rattle.theory.proofs.Prelude.{ℕ, _≤_, _^_, _*_, _-_, suc, zero, true, false, Bool, [], _∷_, inl, inr, _⊎_, _∙_, ap, _≡_, sym, refl, mul-pos, zero-mul, arith, leb, ℤ, pos, negsuc, negℤ}
 use Rattle.theory.specs.Tests.{unless}
 use Rattle.theory.specs.Signed.{signed, predecessor, successor}
 use Rattle.theory.specs.Neighbours.{lower, upper}
@@ -17,24 +9,22 @@ use Rattle.theory.proofs.Faithful.{predecessor-pos, predecessor-neg, successor-
 use Rattle.format.specs.declared.Format.{Format}
 use Rattle.format.specs.declared.Prepared.{Prepared}
 use Rattle.format.specs.declared.Preparation.the-variants.{Ready}
-use Rattle.format.specs.declared.Refusal.the-variants.{TooLarge}
 use Rattle.format.proofs.Formats.{Admitted, positional}
 use Rattle.number.specs.declared.Number.{Number}
-use Rattle.number.specs.declared.Answer.{Answer}
-use Rattle.number.specs.declared.Answer.the-variants.{Value, Refused}
+use Rattle.format.specs.Given.{Given, gives, refused}
 use Rattle.number.specs.Numbers.{placeOf, magnitude, value, greatest, number, delivered}
-use Rattle.number.specs.Entry.{entered}
+use Rattle.number.specs.Checks.{entered}
 use Rattle.number.proofs.Membership.{Member, members, known}
+use Rattle.number.proofs.CheckLaws.{passed, answered, operand}
 use Rattle.number.proofs.Values.{number-same}
 use Rattle.number.proofs.Comparison.{negative-size}
 use Rattle.units.specs.Neighbours.{deliveredZ, predecessorOf, successorOf}
-use Rattle.units.proofs.Entered.{inside, answered}
 
 -- a sign and a magnitude, or their value
 pub delivered-signed : (f : Format) (s : Bool) (n : ℕ) → delivered f s n ≡ deliveredZ f (signed s n)
 unfolding delivered
 delivered-signed f false n = refl
-delivered-signed f true zero = ap (λ (x : Number). unless (leb 0 (greatest f)) (Refused TooLarge) (Value x)) (number-same f true false 0 0 refl)
+delivered-signed f true zero = ap (λ (x : Number). unless (leb 0 (greatest f)) (refused 5) (gives x)) (number-same f true false 0 0 refl)
 delivered-signed f true (suc n) = refl
 
 module _ {f : Format} {x : Number} (a : Admitted f) (i : Member f x) where
@@ -87,19 +77,19 @@ module _ {f : Format} {x : Number} (a : Admitted f) (i : Member f x) where
 -- ---- what the calls answer after the check, by what away and toward answer
 module _ (f : Format) (x : Number) {q : Prepared} (h : entered f [] (x ∷ []) ≡ Ready q) where
   admits : Admitted (q .format)
-  admits = known (inside f x h .0) .admits
+  admits = known (operand (passed f [] (x ∷ []) h) .usable) .admits
 
   inner : Member (q .format) x
-  inner = members x admits (inside f x h .1)
+  inner = members x admits (operand (passed f [] (x ∷ []) h) .number)
 
   -- a number below zero has digits
   pub negative-digits : x .negative ≡ true → 1 ≤ x .significand
   negative-digits e = let some : (x .significand ≡ 0 → ⊥) = λ z. never (sym e ∙ inner .zero-sign z) in omega arith
 
-  module _ {r : Answer} where
+  module _ {r : Given Number} where
     predecessor-is : r ≡ deliveredZ (q .format) (predecessor (q .format .base) (q .format .digits) (value (q .format) x)) → r ≡ predecessorOf f x
     unfolding predecessorOf
-    predecessor-is e = e ∙ answered f x (λ (g : Format). deliveredZ g (predecessor (g .base) (g .digits) (value g x))) h
+    predecessor-is e = e ∙ answered f [] (x ∷ []) (λ (g : Format). deliveredZ g (predecessor (g .base) (g .digits) (value g x))) h
 
     pub away-below : (x .negative ≡ true) ⊎ (x .significand ≡ 0)
         → r ≡ delivered (q .format) true (upper (q .format .base) (q .format .digits) (suc (magnitude (q .format) x))) → r ≡ predecessorOf f x
@@ -111,7 +101,7 @@ module _ (f : Format) (x : Number) {q : Prepared} (h : entered f [] (x ∷ []) �
 
     successor-is : r ≡ deliveredZ (q .format) (successor (q .format .base) (q .format .digits) (value (q .format) x)) → r ≡ successorOf f x
     unfolding successorOf
-    successor-is e = e ∙ answered f x (λ (g : Format). deliveredZ g (successor (g .base) (g .digits) (value g x))) h
+    successor-is e = e ∙ answered f [] (x ∷ []) (λ (g : Format). deliveredZ g (successor (g .base) (g .digits) (value g x))) h
 
     pub away-above : x .negative ≡ false
         → r ≡ delivered (q .format) false (upper (q .format .base) (q .format .digits) (suc (magnitude (q .format) x))) → r ≡ successorOf f x

@@ -1,12 +1,5 @@
 -- The places and neighbours of a number of the format, as the code writes them.
-use Prim.Native.Nat.{ℕ, zero, suc, _^_, _+_, _*_, _-_, _≤_, _<_}
-use mathlib.Core.Path.{_≡_, refl, sym, ap, ap₂, _∙_}
-use mathlib.Core.Bool.{Bool, true, false, not, _&&_}
-use mathlib.Core.Logic.{_⊎_}
-use native.Mathlib.Nat.{zero-mul, lt-of-not-le}
-use native.Mathlib.Omega.{arith}
-use lib.Dec.{eqb}
-use lib.IntN.{ℤ, pos}
+use Rattle.theory.proofs.Prelude.{ℕ, _≤_, _<_, _+_, _^_, _*_, _-_, suc, zero, true, false, Bool, not, _&&_, _⊎_, _∙_, ap, _≡_, sym, refl, ap₂, zero-mul, lt-of-not-le, arith, eqb, ℤ, pos}
 use Rattle.theory.specs.Wide.{Canonical}
 use Rattle.theory.specs.Signed.{signed}
 use Rattle.theory.specs.Units.{ufp, ulp, uls, zeros}

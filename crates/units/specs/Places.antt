@@ -1,27 +1,36 @@
 -- The places of a number x of the format f, as numbers of the format.
-use mathlib.Core.Bool.{false}
+use Prim.Native.Nat.{ℕ}
+use mathlib.Core.Path.{_≡_}
+use mathlib.Core.Bool.{true, false}
 use mathlib.Core.List.{[], _∷_}
+use lib.IntN.{pos}
 use Rattle.theory.specs.Units.{ufp, ulp, uls}
 use Rattle.format.specs.declared.Format.{Format}
 use Rattle.number.specs.declared.Number.{Number}
-use Rattle.number.specs.declared.Answer.{Answer}
-use Rattle.number.specs.declared.Answer.the-variants.{Value, Refused}
-use Rattle.number.specs.Numbers.{magnitude, number}
-use Rattle.number.specs.Entry.{entry, after}
+use Rattle.format.specs.Given.{Given, gives, refused}
+use Rattle.number.specs.Numbers.{member, magnitude, value, number}
+use Rattle.number.specs.Checks.{checked}
 use Rattle.units.specs.declared.places.Place.{Place}
 use Rattle.units.specs.declared.places.Place.the-variants.{First, Last, Least}
 
 -- ufp(x), the first place
-unfoldable pub firstPlace : Format → Number → Answer
-firstPlace f x = after (entry f [] (x ∷ [])) Refused (Value (number f false (ufp (f .base) (magnitude f x))))
+unfoldable pub firstPlace : Format → Number → Given Number
+firstPlace f x = checked f [] (x ∷ []) (gives (number f false (ufp (f .base) (magnitude f x))))
 
 -- ulp(x), the last place
-unfoldable pub lastPlace : Format → Number → Answer
-lastPlace f x = after (entry f [] (x ∷ [])) Refused (Value (number f false (ulp (f .base) (f .digits) (magnitude f x))))
+unfoldable pub lastPlace : Format → Number → Given Number
+lastPlace f x = checked f [] (x ∷ []) (gives (number f false (ulp (f .base) (f .digits) (magnitude f x))))
 
 -- uls(x), the place of the least nonzero digit
-unfoldable pub leastPlace : Format → Number → Answer
-leastPlace f x = after (entry f [] (x ∷ [])) Refused (Value (number f false (uls (f .base) (magnitude f x))))
+unfoldable pub leastPlace : Format → Number → Given Number
+leastPlace f x = checked f [] (x ∷ []) (gives (number f false (uls (f .base) (magnitude f x))))
+
+-- a call gives a number of the format, with the value n
+pub record GivesValue (f : Format) (answer : Given Number) (n : ℕ) : Type 0 where
+  pub given : Number
+  pub is : answer ≡ gives given
+  pub number : member f given ≡ true
+  pub value-is : value f given ≡ pos n
 
 -- the code's places: the number of one, and the answer of its call
 abbrev pub placeNumber : Place → Format → Number → Number
@@ -29,7 +38,7 @@ placeNumber First f x = number f false (ufp (f .base) (magnitude f x))
 placeNumber Last f x = number f false (ulp (f .base) (f .digits) (magnitude f x))
 placeNumber Least f x = number f false (uls (f .base) (magnitude f x))
 
-abbrev pub placeAnswer : Place → Format → Number → Answer
+abbrev pub placeAnswer : Place → Format → Number → Given Number
 placeAnswer First f x = firstPlace f x
 placeAnswer Last f x = lastPlace f x
 placeAnswer Least f x = leastPlace f x

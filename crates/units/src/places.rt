@@ -5,14 +5,13 @@ use crate::powers_of_base::trailing_zeros;
 use format::Format;
 use format::Preparation;
 use format::Prepared;
-use number::Answer;
 use number::Number;
-use number::entry::enter;
+use number::NumberAnswer;
+use number::checks::enter;
 use number::exponents::place_of;
 ghost use mathlib.Core.Path.{_≡_};
-ghost use mathlib.Core.Bool.{true};
-ghost use Rattle.number.specs.Entry.{Usable};
-ghost use Rattle.number.specs.Numbers.{member};
+ghost use Rattle.number.specs.Answers.{numberGiven};
+ghost use Rattle.number.specs.Checks.{Operand};
 ghost use Rattle.units.specs.Places.{firstPlace, lastPlace, leastPlace, placeNumber, placeAnswer};
 
 enum Place {
@@ -22,7 +21,7 @@ enum Place {
 }
 
 fn first_place(prepared: Prepared, x: Number) -> Number
-    requires { ⌜ Usable prepared × (member (prepared .format) x ≡ true) ⌝ }
+    requires { ⌜ Operand prepared x ⌝ }
     ensures { λ r. ⌜ r ≡ placeNumber Place.First (prepared .format) x ⌝ }
 {
     let exponent = x.exponent;
@@ -34,7 +33,7 @@ fn first_place(prepared: Prepared, x: Number) -> Number
 }
 
 fn last_place(prepared: Prepared, x: Number) -> Number
-    requires { ⌜ Usable prepared × (member (prepared .format) x ≡ true) ⌝ }
+    requires { ⌜ Operand prepared x ⌝ }
     ensures { λ r. ⌜ r ≡ placeNumber Place.Last (prepared .format) x ⌝ }
 {
     if x.significand == 0 {
@@ -44,7 +43,7 @@ fn last_place(prepared: Prepared, x: Number) -> Number
 }
 
 fn least_place(prepared: Prepared, x: Number) -> Number
-    requires { ⌜ Usable prepared × (member (prepared .format) x ≡ true) ⌝ }
+    requires { ⌜ Operand prepared x ⌝ }
     ensures { λ r. ⌜ r ≡ placeNumber Place.Least (prepared .format) x ⌝ }
 {
     if x.significand == 0 {
@@ -58,7 +57,7 @@ fn least_place(prepared: Prepared, x: Number) -> Number
 }
 
 fn place_number(place: Place, prepared: Prepared, x: Number) -> Number
-    requires { ⌜ Usable prepared × (member (prepared .format) x ≡ true) ⌝ }
+    requires { ⌜ Operand prepared x ⌝ }
     ensures { λ r. ⌜ r ≡ placeNumber place (prepared .format) x ⌝ }
 {
     match place {
@@ -69,32 +68,32 @@ fn place_number(place: Place, prepared: Prepared, x: Number) -> Number
 }
 
 // The place after the checks. Refuses 1, 3.
-fn answer_place(place: Place, format: Format, x: Number) -> Answer
-    ensures { λ r. ⌜ r ≡ placeAnswer place format x ⌝ }
+fn answer_place(place: Place, format: Format, x: Number) -> NumberAnswer
+    ensures { λ r. ⌜ numberGiven r ≡ placeAnswer place format x ⌝ }
 {
     match enter(format, x) {
-        Preparation::Refused(why) => Answer::Refused(why),
-        Preparation::Ready(prepared) => Answer::Value(place_number(place, prepared, x)),
+        Preparation::Refused(why) => NumberAnswer::Refused(why),
+        Preparation::Ready(prepared) => NumberAnswer::Value(place_number(place, prepared, x)),
     }
 }
 
 // ufp(x), the greatest power of the base not above |x|. Refuses 1, 3.
-pub fn ufp(format: Format, x: Number) -> Answer
-    ensures { λ r. ⌜ r ≡ firstPlace format x ⌝ }
+pub fn ufp(format: Format, x: Number) -> NumberAnswer
+    ensures { λ r. ⌜ numberGiven r ≡ firstPlace format x ⌝ }
 {
     answer_place(Place::First, format, x)
 }
 
 // ulp(x), base^e. Refuses 1, 3.
-pub fn ulp(format: Format, x: Number) -> Answer
-    ensures { λ r. ⌜ r ≡ lastPlace format x ⌝ }
+pub fn ulp(format: Format, x: Number) -> NumberAnswer
+    ensures { λ r. ⌜ numberGiven r ≡ lastPlace format x ⌝ }
 {
     answer_place(Place::Last, format, x)
 }
 
 // uls(x), the place of the least nonzero digit. Refuses 1, 3.
-pub fn uls(format: Format, x: Number) -> Answer
-    ensures { λ r. ⌜ r ≡ leastPlace format x ⌝ }
+pub fn uls(format: Format, x: Number) -> NumberAnswer
+    ensures { λ r. ⌜ numberGiven r ≡ leastPlace format x ⌝ }
 {
     answer_place(Place::Least, format, x)
 }

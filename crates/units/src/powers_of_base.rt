@@ -9,7 +9,7 @@ ghost use mathlib.Core.Bool.{false};
 ghost use Prim.Native.Nat.{_+_, _≤_, _<_, _^_};
 ghost use Rattle.theory.specs.Units.{ufp, zeros};
 ghost use Rattle.format.specs.Formats.{Scaled};
-ghost use Rattle.number.specs.Entry.{Usable};
+ghost use Rattle.number.specs.Checks.{Usable};
 ghost use Rattle.number.specs.Numbers.{number};
 
 // base^k in units of base^emin, as a number of the format.

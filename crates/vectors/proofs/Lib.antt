@@ -1,2 +1,2 @@
--- Laws of counting.
-pub mod CountingLaws
+-- What the proofs of this crate share.
+pub mod Prelude

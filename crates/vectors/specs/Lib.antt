@@ -1,2 +1,4 @@
--- The lines of an input, compared and counted.
-pub mod Counting
+-- Rows of the vectors: their columns, their calls, and whether and how many agree.
+pub mod Columns
+pub mod Calls
+pub mod Rows

@@ -1,32 +1,32 @@
-// The published vectors: each line of standard input is a call and its answer. The program makes the call, compares, and prints
-// the first lines that differ and how many of each kind agree. What a line means is proved in `vector_words`, `pattern_vectors` and
-// `decimal_vectors`: its words and numerals, and whether the call answers what the line says; the counts are proved here. What is
-// printed of them is compared.
-mod counting;
+// The vectors: each row of standard input is a call and its answer. The program makes the call, compares, and prints how many rows
+// agree, and how many there are. What a row is, whether it agrees and how many do are proved; what is printed is compared.
+mod calls;
+mod columns;
+mod rows;
 
 use libc::STDIN_FILENO;
+use libc::STDOUT_FILENO;
+use rows::Tally;
 
-// How many lines of a kind there are, and how many of them agree.
-struct Count {
-    agree: u64,
-    all: u64,
-}
+// 1,024 rows.
+const BLOCK: usize = 1024 * columns::ROW_LENGTH;
 
-// What is known of the lines so far.
-struct Tally {
-    lines: u64,
-    differing: u64,
-    binary32: Count,
-    decimal: Count,
-}
-
-// The whole input is read before its lines are compared; past 524,288 bytes it is left unread, and its lines uncounted.
+// Reads blocks until the input ends. A proved loop has to end, so this one counts its turns down from a number that no
+// run uses up.
 fn main() {
-    let mut input = [0u8; 524288];
-    let n = io::read_full(STDIN_FILENO, &mut input);
-    let tally = counting::of_lines(&input[..n]);
-    let binary32 = tally.binary32;
-    let decimal = tally.decimal;
-    counting::print_count(b"binary32: ", binary32);
-    counting::print_count(b"decimal: ", decimal);
+    let mut block = [0u8; BLOCK];
+    let mut tally = Tally { agree: 0, all: 0 };
+    let mut turns = u64::MAX;
+    while turns > 0 {
+        let n = io::read_full(STDIN_FILENO, &mut block);
+        if n == 0 {
+            break;
+        }
+        tally = rows::count(tally, &block[..n]);
+        turns -= 1;
+    }
+    io::print_decimal(STDOUT_FILENO, tally.agree);
+    io::write_all(STDOUT_FILENO, b" of ");
+    io::print_decimal(STDOUT_FILENO, tally.all);
+    io::write_all(STDOUT_FILENO, b" rows agree\n");
 }

@@ -1,9 +1,6 @@
 -- From the digits that were taken to the cut of the value.
-use Prim.Native.Nat.{ℕ, zero, suc, _^_, _+_, _*_, _-_, _/_, _%_, _≤_, _<_}
-use mathlib.Core.Path.{_≡_, refl, sym, ap, _∙_}
-use mathlib.Core.Logic.{_≢_, _⊎_, inl, inr}
-use native.Mathlib.Nat.{div-add-mod', mod-lt, mul-pos, mul-lt-mul-of-pos-right, mul-le-mul-right, mul-le-mul-left, lt-of-mul-lt-mul-right, le-of-mul-le-mul-right, eq-of-mul-eq-mul-right, pow-zero, pow-succ', pow-le-pow-left, div-le-self, add-suc}
-use native.Mathlib.Omega.{arith}
+use Rattle.theory.proofs.Prelude.{ℕ, _≤_, _<_, _+_, _^_, _*_, _-_, suc, zero, _%_, _/_, inl, inr, _⊎_, _≢_, _∙_, ap, _≡_, sym, refl, mul-le-mul-right, mul-le-mul-left, pow-zero, mul-pos, mul-lt-mul-of-pos-right, pow-succ', lt-of-mul-lt-mul-right, div-add-mod', eq-of-mul-eq-mul-right, le-of-mul-le-mul-right, mod-lt, add-suc, pow-le-pow-left, arith}
+use native.Mathlib.Nat.{div-le-self}
 use Rattle.theory.specs.Place.{Positional, place}
 use Rattle.theory.proofs.Powers.{pow-add, pow-pos, pow-mono, pow-half}
 use Rattle.theory.proofs.Place.{place-fits, place-le, full}

@@ -1,7 +1,7 @@
 -- The laws that the operations' proofs go by, and that the crates above cite.
 pub mod Signs
 pub mod Sizes
-pub mod Deliveries
+pub mod Finishes
 pub mod Sums
 pub mod Products
 pub mod Quotients

@@ -1,15 +1,12 @@
 -- The product's exact value and its bounds.
-use Prim.Native.Nat.{ℕ, suc, _^_, _+_, _*_, _≤_, _<_}
-use mathlib.Core.Path.{_≡_}
-use native.Mathlib.Nat.{mul-le-mul}
-use native.Mathlib.Omega.{arith}
+use Rattle.theory.proofs.Prelude.{ℕ, _≤_, _<_, _+_, _^_, _*_, suc, _≡_, mul-le-mul, arith}
 use Rattle.theory.proofs.Powers.{pow-add}
 use Rattle.format.specs.declared.Scale.{Scale}
 use Rattle.format.specs.Formats.{Scaled}
-use Rattle.wide.specs.declared.Wide.{Wide}
-use Rattle.wide.specs.Operand.{Operand, sizeOf}
+use Rattle.rounding.specs.declared.Wide.{Wide}
+use Rattle.wide.specs.Operand.{Bounded, sizeOf}
 
-module _ {s : Scale} (h : Scaled s) {x y : Wide} (hx : Operand s x) (hy : Operand s y) where
+module _ {s : Scale} (h : Scaled s) {x y : Wide} (hx : Bounded s x) (hy : Bounded s y) where
   pub product-small : x .significand * y .significand < s .top * s .top
   product-small =
       let x-most : suc (x .significand) ≤ s .top = omega (arith, hx .canonical .small, h .top-power) in

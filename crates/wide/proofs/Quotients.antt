@@ -1,10 +1,6 @@
 -- The quotient's exact value and its cut.
-use Prim.Native.Nat.{ℕ, zero, suc, _^_, _+_, _*_, _-_, _/_, _%_, _≤_, _<_}
-use mathlib.Core.Path.{_≡_, refl, sym, ap, ap₂, _∙_}
-use mathlib.Core.Logic.{_⊎_, inl, inr}
-use native.Mathlib.Nat.{mul-le-mul-left, mul-le-mul-right, mul-lt-mul-of-pos-right, lt-of-mul-lt-mul-right, le-of-mul-le-mul-left, mul-div-mul-right, mul-right-comm, mul-pos, div-add-mod', mod-lt, pow-zero}
-use native.Mathlib.Decide.{decLe}
-use native.Mathlib.Omega.{arith}
+use Rattle.theory.proofs.Prelude.{ℕ, _≤_, _<_, _+_, _^_, _*_, _-_, suc, zero, _%_, _/_, inl, inr, _⊎_, _∙_, ap, _≡_, sym, refl, ap₂, decLe, mul-le-mul-right, mul-le-mul-left, pow-zero, mul-pos, mul-lt-mul-of-pos-right, lt-of-mul-lt-mul-right, div-add-mod', mod-lt, le-of-mul-le-mul-left, arith}
+use native.Mathlib.Nat.{mul-div-mul-right, mul-right-comm}
 use lib.Arith.{digits-mod}
 use Rattle.theory.specs.Place.{Positional, step}
 use Rattle.theory.proofs.Powers.{pow-add, pow-pos, pow-mono, pow-half}

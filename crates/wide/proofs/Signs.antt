@@ -1,11 +1,7 @@
 -- Sums and products of signed magnitudes.
-use Prim.Native.Nat.{ℕ, zero, suc, _+_, _*_, _-_, _≤_}
-use mathlib.Core.Path.{_≡_, refl, sym, ap, _∙_}
-use mathlib.Core.Bool.{Bool, true, false, xor, Bool·beq}
-use native.Mathlib.Nat.{zero-mul, mul-zero, mul-sub, mul-le-mul-right}
-use native.Mathlib.Decide.{decLe}
-use native.Mathlib.Omega.{arith}
-use lib.IntN.{ℤ, pos, negℤ, natAbs, _+ℤ_, _*ℤ_, +ℤ-comm, +ℤ-idr}
+use Rattle.theory.proofs.Prelude.{ℕ, _≤_, _+_, _*_, _-_, suc, zero, true, false, Bool, xor, Bool·beq, _∙_, ap, _≡_, sym, refl, decLe, mul-le-mul-right, zero-mul, mul-sub, arith, ℤ, pos, _+ℤ_, natAbs, negℤ, _*ℤ_, +ℤ-comm}
+use native.Mathlib.Nat.{mul-zero}
+use lib.IntN.{+ℤ-idr}
 use Rattle.theory.specs.Signed.{signed}
 use Rattle.theory.proofs.Integers.{size-signed, add-agree, add-differ, scale-signed}
 

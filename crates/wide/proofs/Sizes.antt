@@ -1,14 +1,10 @@
 -- Bounds on the exact values: each is at most the greatest number at some place.
-use Prim.Native.Nat.{ℕ, _^_, _+_, _*_, _-_, _≤_, _<_}
-use mathlib.Core.Path.{_≡_, ap}
-use native.Mathlib.Nat.{mul-le-mul, mul-le-mul-left, mul-lt-mul-of-pos-right, le-trans}
-use native.Mathlib.Omega.{arith}
-use lib.IntN.{natAbs, _+ℤ_}
+use Rattle.theory.proofs.Prelude.{ℕ, _≤_, _<_, _+_, _^_, _*_, _-_, ap, _≡_, mul-le-mul-left, mul-lt-mul-of-pos-right, le-trans, mul-le-mul, arith, _+ℤ_, natAbs}
 use Rattle.theory.specs.Place.{Positional}
 use Rattle.theory.specs.Wide.{Canonical}
 use Rattle.theory.proofs.Powers.{pow-add, pow-pos, pow-mono}
 use Rattle.rounding.proofs.Scales.{power-next}
-use Rattle.wide.specs.declared.Wide.{Wide}
+use Rattle.rounding.specs.declared.Wide.{Wide}
 use Rattle.wide.specs.Operand.{sizeOf, valueOf}
 use Rattle.wide.proofs.Signs.{sum-most}
 

@@ -1,14 +1,9 @@
 -- The cut of a sum, where the numbers overlap and where they are far apart.
-use Prim.Native.Nat.{ℕ, suc, _^_, _+_, _*_, _-_, _≤_, _<_}
-use mathlib.Core.Path.{_≡_, refl, sym, ap, ap₂, _∙_}
-use mathlib.Core.Logic.{_≢_, inl, inr, ⊎-elim}
-use mathlib.Core.Bool.{Bool, true, false, not, cond, Bool·beq}
-use native.Mathlib.Nat.{mul-le-mul-left, mul-le-mul-right, mul-lt-mul-of-pos-right, mul-pos, add-zero, le-of-mul-le-mul-left, le-antisymm, pow-zero, sub-zero}
-use native.Mathlib.Omega.{arith}
-use lib.IntN.{ℤ, natAbs, _+ℤ_}
-use mir.Val.{boolByte}
+use Rattle.theory.proofs.Prelude.{ℕ, _≤_, _<_, _+_, _^_, _*_, _-_, suc, true, false, Bool, cond, not, Bool·beq, ⊎-elim, inl, inr, _≢_, _∙_, ap, _≡_, sym, refl, ap₂, subst, mul-le-mul-right, mul-le-mul-left, pow-zero, mul-pos, mul-lt-mul-of-pos-right, le-antisymm, add-zero, le-of-mul-le-mul-left, arith, ℤ, _+ℤ_, natAbs, boolByte}
+use native.Mathlib.Nat.{sub-zero}
 use Rattle.theory.specs.Place.{Positional}
 use Rattle.theory.specs.Wide.{Canonical}
+use Rattle.theory.specs.declared.Direction.{Direction}
 use Rattle.theory.specs.Signed.{signed}
 use Rattle.theory.proofs.Powers.{pow-add, pow-pos, pow-pred, pow-mono, pow-half}
 use Rattle.theory.proofs.Integers.{size-signed}
@@ -17,19 +12,20 @@ use Rattle.format.specs.Formats.{Scaled}
 use Rattle.rounding.specs.declared.Cut.{Cut}
 use Rattle.theory.specs.declared.Location.{Location}
 use Rattle.theory.specs.declared.Location.the-variants.{Exact, Below, Above}
-use Rattle.rounding.specs.Cut.{cutOf}
+use Rattle.rounding.specs.Cut.{cutOf, Rounds}
 use Rattle.rounding.specs.Location.{located}
 use Rattle.rounding.proofs.Locations.{located-exact, located-below, located-above, located-scaled}
 use Rattle.rounding.proofs.Places.{cut-is}
 use Rattle.rounding.proofs.Scales.{positional, power-at, full-top}
-use Rattle.wide.specs.declared.Wide.{Wide}
-use Rattle.wide.specs.Operand.{Operand, sizeOf, valueOf}
-use Rattle.wide.specs.Sum.{Adds, SumCut, belowPower}
+use Rattle.rounding.specs.declared.Wide.{Wide}
+use Rattle.wide.specs.Operand.{Bounded, sizeOf, valueOf}
+use Rattle.wide.specs.Sum.{Adds, SumCut, RoundsZ, belowPower}
+use Rattle.wide.proofs.Sizes.{sum-size}
+use Rattle.wide.proofs.Finishes.{steps-fit, place-fit}
 use Rattle.wide.proofs.Signs.{sum-agree, sum-differ, sum-none, sub-times}
 
 -- a sign and a magnitude of z make its cut
-pub sum-cut-made : (s : Scale) {z : ℤ} {a : Bool} {c : Cut} (n : ℕ) → z ≡ signed a n → c ≡ cutOf (s .base) (s .digits) n 1
-    → SumCut s z (record { negative = a; cut = c })
+pub sum-cut-made : (s : Scale) {z : ℤ} {a : Bool} {c : Cut} (n : ℕ) → z ≡ signed a n → c ≡ cutOf (s .base) (s .digits) n 1 → SumCut s z a c
 sum-cut-made s {z} {a} n e f =
     let size : natAbs z ≡ n = ap natAbs e ∙ size-signed a n in
     record {
@@ -38,7 +34,7 @@ sum-cut-made s {z} {a} n e f =
     }
 
 -- ---- the numbers overlap: w is the power that brings x to the place of y
-module _ {s : Scale} (h : Scaled s) {x y : Wide} (hx : Operand s x) (hy : Operand s y) (gap : ℕ) {w : ℕ}
+module _ {s : Scale} (h : Scaled s) {x y : Wide} (hx : Bounded s x) (hy : Bounded s y) (gap : ℕ) {w : ℕ}
     (at : x .place ≡ y .place + gap) (pw : w ≡ s .base ^ gap) where
   pub near-most : gap ≤ s .digits → x .significand * w + y .significand < s .top * s .top
   near-most l =
@@ -58,7 +54,7 @@ module _ {s : Scale} (h : Scaled s) {x y : Wide} (hx : Operand s x) (hy : Operan
 
   pub near-sum-cut : {a : Bool} {n : ℕ} {c : Cut} → Adds (x .negative) (x .significand * w) (y .negative) (y .significand) a n
       → c ≡ cutOf (s .base) (s .digits) (n * s .base ^ y .place) (s .base ^ 0)
-      → SumCut s (valueOf (s .base) x +ℤ valueOf (s .base) y) (record { negative = a; cut = c })
+      → SumCut s (valueOf (s .base) x +ℤ valueOf (s .base) y) a c
   near-sum-cut {n = n} add e =
       sum-cut-made s (n * s .base ^ y .place)
       (ap (λ (v : ℕ). signed (x .negative) v +ℤ valueOf (s .base) y) near-scaled ∙ add .sum (s .base ^ y .place))
@@ -77,15 +73,15 @@ canonical-cut {β} {p} {m} {k} ok c r l =
     (omega arith) (omega arith) (omega arith) (omega arith) l
 
 -- y = 0
-pub far-none : {s : Scale} → Scaled s → {x : Wide} (y : Wide) → Operand s x → y .significand ≡ 0
-    → SumCut s (valueOf (s .base) x +ℤ valueOf (s .base) y) (record { negative = x .negative; cut = record { steps = x .significand; place = x .place; location = Exact } })
+pub far-none : {s : Scale} → Scaled s → {x : Wide} (y : Wide) → Bounded s x → y .significand ≡ 0
+    → SumCut s (valueOf (s .base) x +ℤ valueOf (s .base) y) (x .negative) (record { steps = x .significand; place = x .place; location = Exact })
 far-none {s} h {x} y hx e =
     let none : sizeOf (s .base) y ≡ 0 = rw e (omega arith) in
     sum-cut-made s (sizeOf (s .base) x)
     (ap (λ (v : ℕ). valueOf (s .base) x +ℤ signed (y .negative) v) none ∙ sum-none (x .negative) (y .negative) (sizeOf (s .base) x))
     (sym (rw (add-zero, located-exact 0 (s .base ^ x .place) refl) at (canonical-cut (positional h) (hx .canonical) 0 (pow-pos (h .base-least) (x .place)))))
 
-module _ {s : Scale} (h : Scaled s) {x y : Wide} (hx : Operand s x) (hy : Operand s y) (gap : ℕ)
+module _ {s : Scale} (h : Scaled s) {x y : Wide} (hx : Bounded s x) (hy : Bounded s y) (gap : ℕ)
     (at : x .place ≡ y .place + gap) (far : s .digits < gap) (some : 1 ≤ y .significand) where
   y-below : sizeOf (s .base) y < s .base ^ (x .place - 1)
   y-below =
@@ -127,7 +123,7 @@ module _ {s : Scale} (h : Scaled s) {x y : Wide} (hx : Operand s x) (hy : Operan
       (omega (arith, unit, sub-times (s .base ^ (gap - 1)) (y .significand) (s .base ^ y .place) m-most)) (omega (arith, unit))
 
   pub far-agree : Bool·beq (x .negative) (y .negative) ≡ true
-      → SumCut s (valueOf (s .base) x +ℤ valueOf (s .base) y) (record { negative = x .negative; cut = record { steps = x .significand; place = x .place; location = Below } })
+      → SumCut s (valueOf (s .base) x +ℤ valueOf (s .base) y) (x .negative) (record { steps = x .significand; place = x .place; location = Below })
   far-agree e =
       sum-cut-made s (sizeOf (s .base) x + sizeOf (s .base) y) (sum-agree (x .negative) (y .negative) e (sizeOf (s .base) x) (sizeOf (s .base) y))
       (sym (canonical-cut (positional h) (hx .canonical) (sizeOf (s .base) y) (omega (arith, y-half))
@@ -135,7 +131,7 @@ module _ {s : Scale} (h : Scaled s) {x y : Wide} (hx : Operand s x) (hy : Operan
 
   -- x leads with more than the power: the number before it is a step away
   pub far-differ : Bool·beq (x .negative) (y .negative) ≡ false → s .full < x .significand
-      → SumCut s (valueOf (s .base) x +ℤ valueOf (s .base) y) (record { negative = x .negative; cut = record { steps = x .significand - 1; place = x .place; location = Above } })
+      → SumCut s (valueOf (s .base) x +ℤ valueOf (s .base) y) (x .negative) (record { steps = x .significand - 1; place = x .place; location = Above })
   far-differ e l =
       let n : ℕ = x .significand - 1 in
       let B : ℕ = s .base ^ x .place in
@@ -150,7 +146,7 @@ module _ {s : Scale} (h : Scaled s) {x y : Wide} (hx : Operand s x) (hy : Operan
 
   -- x is a power: the numbers before it are nearer together
   pub far-power : Bool·beq (x .negative) (y .negative) ≡ false → x .significand ≤ s .full → {l : Location} → l ≡ belowPower (s .base) (y .significand) gap
-      → SumCut s (valueOf (s .base) x +ℤ valueOf (s .base) y) (record { negative = x .negative; cut = record { steps = s .top - 1; place = x .place - 1; location = l } })
+      → SumCut s (valueOf (s .base) x +ℤ valueOf (s .base) y) (x .negative) (record { steps = s .top - 1; place = x .place - 1; location = l })
   far-power e l f =
       let k : ℕ = x .place - 1 in
       let B : ℕ = s .base ^ k in
@@ -166,6 +162,24 @@ module _ {s : Scale} (h : Scaled s) {x y : Wide} (hx : Operand s x) (hy : Operan
 
   -- both cases in which x keeps its place, selected by the signs
   pub far-selected : (t : Bool) → Bool·beq (x .negative) (y .negative) ≡ t → (t ≡ false → s .full < x .significand) → {l : Location} → l ≡ cond t Below Above
-      → SumCut s (valueOf (s .base) x +ℤ valueOf (s .base) y) (record { negative = x .negative; cut = record { steps = x .significand - boolByte (not t); place = x .place; location = l } })
+      → SumCut s (valueOf (s .base) x +ℤ valueOf (s .base) y) (x .negative) (record { steps = x .significand - boolByte (not t); place = x .place; location = l })
   far-selected true e m f = rw (f, sub-zero (x .significand)) (far-agree e)
   far-selected false e m f = rw f (far-differ e (m refl))
+
+-- ---- from the cut to the result
+module _ {s : Scale} (h : Scaled s) {x y : Wide} (hx : Bounded s x) (hy : Bounded s y) {negative : Bool} {c : Cut}
+    (k : SumCut s (valueOf (s .base) x +ℤ valueOf (s .base) y) negative c) where
+  -- what `finish` asks of it
+  pub sum-finishes : Scaled s × (c .steps < s .top) × (c .place ≤ 2 ^ 30)
+  sum-finishes =
+      let n : ℕ = natAbs (valueOf (s .base) x +ℤ valueOf (s .base) y) in
+      (h, steps-fit h n 1 (omega arith) (k .size), omega (arith, place-fit h n 1 (omega arith) (k .size) (2 ^ 28 + 1) (sum-size (positional h) x y (hx .canonical) (hy .canonical) (2 ^ 28) (omega (arith, hx .place-most)) (omega (arith, hy .place-most)))))
+
+pub sum-rounds : {s : Scale} {d : Direction} (z : ℤ) {negative : Bool} {c : Cut} {r : Wide} → SumCut s z negative c
+    → ((N D : ℕ) → 1 ≤ D → c ≡ cutOf (s .base) (s .digits) N D → Rounds (s .base) (s .digits) d negative N D r) → RoundsZ (s .base) (s .digits) d z r
+sum-rounds {s} {d} z {negative} {c} {r} k finished =
+    let h = finished (natAbs z) 1 (omega arith) (k .size) in
+    record {
+      sign = rw (h .sign) (k .sign);
+      rounds = subst (λ (a : Bool). Rounds (s .base) (s .digits) d a (natAbs z) 1 r) (sym (h .sign)) h;
+    }

@@ -4,10 +4,10 @@ use lib.IntN.{ℤ}
 use Rattle.theory.specs.Wide.{Canonical}
 use Rattle.theory.specs.Signed.{signed}
 use Rattle.format.specs.declared.Scale.{Scale}
-use Rattle.wide.specs.declared.Wide.{Wide}
+use Rattle.rounding.specs.declared.Wide.{Wide}
 
 -- a number of the wide format, at a place that no shift takes out of 32 bits
-pub record Operand (s : Scale) (x : Wide) : Type 0 where
+pub record Bounded (s : Scale) (x : Wide) : Type 0 where
   pub canonical : Canonical (s .base) (s .digits) (x .significand) (x .place)
   pub place-most : x .place < 2 ^ 28
 

@@ -3,34 +3,30 @@ use Prim.Native.Nat.{ℕ, _^_, _+_, _*_, _-_, _≤_}
 use mathlib.Core.Path.{_≡_}
 use mathlib.Core.Bool.{Bool}
 use lib.IntN.{ℤ, natAbs, _+ℤ_}
-use Rattle.theory.specs.Signed.{signed, is-negative}
 use Rattle.theory.specs.declared.Direction.{Direction}
 use Rattle.theory.specs.declared.Location.{Location}
+use Rattle.theory.specs.Signed.{signed}
 use Rattle.format.specs.declared.Scale.{Scale}
-use Rattle.rounding.specs.Cut.{cutOf}
+use Rattle.rounding.specs.declared.Cut.{Cut}
+use Rattle.rounding.specs.declared.Wide.{Wide}
+use Rattle.rounding.specs.Cut.{cutOf, Rounds}
 use Rattle.rounding.specs.Location.{located}
-use Rattle.wide.specs.declared.Wide.{Wide}
-use Rattle.wide.specs.declared.SignedCut.{SignedCut}
-use Rattle.wide.specs.Operand.{valueOf}
-use Rattle.wide.specs.Delivery.{delivered}
 
--- an integer, rounded
-unfoldable pub deliveredZ : (β p : ℕ) (d : Direction) (z : ℤ) → Wide
-deliveredZ β p d z = delivered β p d (is-negative z) (natAbs z) 1
+-- r is the whole number z, rounded; where z is 0 it has either sign
+pub record RoundsZ (β p : ℕ) (d : Direction) (z : ℤ) (r : Wide) : Type 0 where
+  pub sign : z ≡ signed (r .negative) (natAbs z)
+  pub rounds : Rounds β p d (r .negative) (natAbs z) 1 r
 
--- the exact sum, rounded
-unfoldable pub summed : (β p : ℕ) (d : Direction) (x y : Wide) → Wide
-summed β p d x y = deliveredZ β p d (valueOf β x +ℤ valueOf β y)
-
+-- ---- for inner functions
 -- v with the sign a and w with the sign b make n with the sign c, in any unit t
 pub record Adds (a : Bool) (v : ℕ) (b : Bool) (w : ℕ) (c : Bool) (n : ℕ) : Type 0 where
   pub sum : (t : ℕ) → signed a (v * t) +ℤ signed b (w * t) ≡ signed c (n * t)
   pub most : n ≤ v + w
 
--- r is a sign of z (either, where z is 0) and the cut of its magnitude
-pub record SumCut (s : Scale) (z : ℤ) (r : SignedCut) : Type 0 where
-  pub sign : z ≡ signed (r .negative) (natAbs z)
-  pub size : r .cut ≡ cutOf (s .base) (s .digits) (natAbs z) 1
+-- z has this sign (either, where z is 0), and r is the cut of its magnitude
+pub record SumCut (s : Scale) (z : ℤ) (negative : Bool) (r : Cut) : Type 0 where
+  pub sign : z ≡ signed negative (natAbs z)
+  pub size : r ≡ cutOf (s .base) (s .digits) (natAbs z) 1
 
 -- where β ^ (gap - 1) - m lies in β ^ (gap - 1)
 unfoldable pub belowPower : (β m gap : ℕ) → Location

@@ -1,9 +1,9 @@
 // A fraction n / d of whole numbers, worked out digit by digit in the base of a format.
-use crate::Wide;
-use crate::delivery::deliver;
 use format::Scale;
 use format::Significand;
 use rounding::Cut;
+use rounding::Wide;
+use rounding::choice::finish;
 use rounding::choice::locate;
 use rounding::cutting::cut;
 use theory::Direction;
@@ -11,8 +11,7 @@ use theory::Location;
 ghost use mathlib.Core.Path.{_≡_};
 ghost use Prim.Native.Nat.{ℕ, _*_, _<_, _≤_, _^_};
 ghost use Rattle.format.specs.Formats.{Scaled};
-ghost use Rattle.rounding.specs.Cut.{cutOf};
-ghost use Rattle.wide.specs.Delivery.{delivered};
+ghost use Rattle.rounding.specs.Cut.{cutOf, Rounds};
 ghost use Rattle.wide.specs.Division.{Divided, Ended, Grouped, Quotient, Start};
 
 // The divisor d * base ^ place, which is above n.
@@ -173,9 +172,9 @@ pub fn fraction(
     down: u32,
 ) -> Wide
     requires { ⌜ Scaled scale × (1 ≤ d) × (up < 2 ^ 28) × (down < 2 ^ 28) ⌝ }
-    ensures { λ r. ⌜ r ≡ delivered (scale .base) (scale .digits) direction negative (n * scale .base ^ up) (d * scale .base ^ down) ⌝ }
+    ensures { λ r. ⌜ Rounds (scale .base) (scale .digits) direction negative (n * scale .base ^ up) (d * scale .base ^ down) r ⌝ }
 {
-    deliver(
+    finish(
         scale,
         direction,
         negative,

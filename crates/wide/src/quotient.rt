@@ -1,9 +1,9 @@
 // The quotient: both significands brought to all their digits, and one division.
-use crate::Wide;
-use crate::delivery::deliver;
 use format::Scale;
 use format::Significand;
 use rounding::Cut;
+use rounding::Wide;
+use rounding::choice::finish;
 use rounding::choice::locate;
 use rounding::cutting::divide;
 use rounding::digits::digit_count;
@@ -11,12 +11,13 @@ use rounding::digits::power;
 use theory::Direction;
 use theory::Location;
 ghost use mathlib.Core.Path.{_≡_};
+ghost use mathlib.Core.Bool.{xor};
 ghost use Prim.Native.Nat.{_+_, _*_, _<_, _≤_, _^_};
 ghost use Rattle.format.specs.Formats.{Scaled};
-ghost use Rattle.rounding.specs.Cut.{cutOf, dropped};
+ghost use Rattle.rounding.specs.Cut.{cutOf, dropped, Rounds};
 ghost use Rattle.rounding.specs.Location.{located};
-ghost use Rattle.wide.specs.Operand.{Operand, sizeOf};
-ghost use Rattle.wide.specs.Quotient.{divided, Leading, Shifted};
+ghost use Rattle.wide.specs.Operand.{Bounded, sizeOf};
+ghost use Rattle.wide.specs.Quotient.{Leading, Shifted};
 
 // A significand with all its digits, and how many were added.
 pub struct Normal {
@@ -37,7 +38,7 @@ fn normalise(scale: Scale, m: Significand) -> Normal
 }
 
 // a * unit divided by b.
-pub fn divide_shifted(scale: Scale, a: u64, b: u64, unit: u64, place: u32) -> Cut
+fn divide_shifted(scale: Scale, a: u64, b: u64, unit: u64, place: u32) -> Cut
     requires { ⌜ Scaled scale × Leading scale b × (a * unit < b * scale .top) ⌝ }
     ensures { λ r. ⌜ r ≡ dropped (a * unit) b place ⌝ }
 {
@@ -45,7 +46,7 @@ pub fn divide_shifted(scale: Scale, a: u64, b: u64, unit: u64, place: u32) -> Cu
 }
 
 // Where a lies in b * base ^ e.
-pub fn locate_under(scale: Scale, a: u64, b: u64, e: u32) -> Location
+fn locate_under(scale: Scale, a: u64, b: u64, e: u32) -> Location
     requires { ⌜ Scaled scale × Leading scale a × Leading scale b × (1 ≤ e) ⌝ }
     ensures { λ r. ⌜ r ≡ located a (b * scale .base ^ e) ⌝ }
 {
@@ -81,31 +82,16 @@ fn quotient_cut(scale: Scale, a: u64, b: u64, high: u32, low: u32) -> Cut
     }
 }
 
-// x * base ^ up / (y * base ^ down), rounded, where its cut is at hand.
-pub fn round_quotient(
-    scale: Scale,
-    direction: Direction,
-    x: Wide,
-    y: Wide,
-    up: u32,
-    down: u32,
-    exact: Cut,
-) -> Wide
-    requires { ⌜ Scaled scale × Operand scale x × (1 ≤ y .significand) × (up < 2 ^ 28)
-        × (exact ≡ cutOf (scale .base) (scale .digits) (sizeOf (scale .base) x * scale .base ^ up) (sizeOf (scale .base) y * scale .base ^ down)) ⌝ }
-    ensures { λ r. ⌜ r ≡ divided (scale .base) (scale .digits) direction x y up down ⌝ }
-{
-    deliver(scale, direction, x.negative != y.negative, exact)
-}
-
 // x * base ^ up / (y * base ^ down), rounded.
 pub fn quotient(scale: Scale, direction: Direction, x: Wide, y: Wide, up: u32, down: u32) -> Wide
-    requires { ⌜ Scaled scale × Operand scale x × Operand scale y × (1 ≤ y .significand) × (up < 2 ^ 28) × (down < 2 ^ 28) ⌝ }
-    ensures { λ r. ⌜ r ≡ divided (scale .base) (scale .digits) direction x y up down ⌝ }
+    requires { ⌜ Scaled scale × Bounded scale x × Bounded scale y × (1 ≤ y .significand) × (up < 2 ^ 28) × (down < 2 ^ 28) ⌝ }
+    ensures { λ r. ⌜ Rounds (scale .base) (scale .digits) direction (xor (x .negative) (y .negative))
+        (sizeOf (scale .base) x * scale .base ^ up) (sizeOf (scale .base) y * scale .base ^ down) r ⌝ }
 {
+    let negative = x.negative != y.negative;
     if x.significand == 0 {
         return Wide {
-            negative: false,
+            negative: negative,
             significand: 0,
             place: 0,
         };
@@ -115,5 +101,5 @@ pub fn quotient(scale: Scale, direction: Direction, x: Wide, y: Wide, up: u32, d
     let high = x.place + up + b.shift;
     let low = y.place + down + a.shift;
     let exact = quotient_cut(scale, a.value, b.value, high, low);
-    round_quotient(scale, direction, x, y, up, down, exact)
+    finish(scale, direction, negative, exact)
 }

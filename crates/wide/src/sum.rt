@@ -1,10 +1,9 @@
 // The sum. Numbers that overlap are added exactly; of numbers far apart only the location of the smaller one counts.
-use crate::SignedCut;
-use crate::Wide;
-use crate::delivery::deliver;
 use format::Scale;
 use format::Significand;
 use rounding::Cut;
+use rounding::Wide;
+use rounding::choice::finish;
 use rounding::choice::locate;
 use rounding::cutting::cut;
 use rounding::cutting::cut_long;
@@ -17,8 +16,8 @@ ghost use lib.IntN.{_+ℤ_};
 ghost use Rattle.format.specs.Formats.{Scaled};
 ghost use Rattle.rounding.specs.Cut.{cutOf};
 ghost use Rattle.rounding.specs.Digits.{Unit};
-ghost use Rattle.wide.specs.Operand.{Operand, valueOf};
-ghost use Rattle.wide.specs.Sum.{Adds, SumCut, summed, belowPower};
+ghost use Rattle.wide.specs.Operand.{Bounded, valueOf};
+ghost use Rattle.wide.specs.Sum.{Adds, SumCut, RoundsZ, belowPower};
 
 // A sign and a magnitude, in any unit.
 pub struct SignedSize {
@@ -28,7 +27,7 @@ pub struct SignedSize {
 
 // The sum of two signed magnitudes of one unit. Both the sum and the difference are worked out, and the struct is made of selected
 // values: made in two branches it would be branched on.
-pub fn add_signed(a: bool, v: u64, b: bool, w: u64) -> SignedSize
+fn add_signed(a: bool, v: u64, b: bool, w: u64) -> SignedSize
     requires { ⌜ v + w < 2 ^ 64 ⌝ }
     ensures { λ r. ⌜ Adds a v b w (r .negative) (r .size) ⌝ }
 {
@@ -62,17 +61,15 @@ fn near_cut(scale: Scale, n: u64, place: u32, unit: u64, gap: u32) -> Cut
 }
 
 // The sum of two numbers whose places differ by at most `digits`.
-fn near_sum(scale: Scale, x: Wide, y: Wide, gap: u32) -> SignedCut
-    requires { ⌜ Scaled scale × Operand scale x × Operand scale y × (x .place ≡ y .place + gap) × (gap ≤ scale .digits) ⌝ }
-    ensures { λ r. ⌜ SumCut scale (valueOf (scale .base) x +ℤ valueOf (scale .base) y) r ⌝ }
+fn near_sum(scale: Scale, direction: Direction, x: Wide, y: Wide, gap: u32) -> Wide
+    requires { ⌜ Scaled scale × Bounded scale x × Bounded scale y × (x .place ≡ y .place + gap) × (gap ≤ scale .digits) ⌝ }
+    ensures { λ r. ⌜ RoundsZ (scale .base) (scale .digits) direction (valueOf (scale .base) x +ℤ valueOf (scale .base) y) r ⌝ }
 {
     let unit = power(scale, gap);
     let high = x.significand as u64 * unit;
     let exact = add_signed(x.negative, high, y.negative, y.significand as u64);
-    SignedCut {
-        negative: exact.negative,
-        cut: near_cut(scale, exact.size, y.place, unit, gap),
-    }
+    let cut = near_cut(scale, exact.size, y.place, unit, gap);
+    finish(scale, direction, exact.negative, cut)
 }
 
 // Where base ^ (gap - 1) - m lies in base ^ (gap - 1).
@@ -86,24 +83,27 @@ fn below_power(scale: Scale, m: Significand, gap: u32) -> Location
     locate((scale.top - m) as u64, scale.top as u64)
 }
 
-// The sum of two numbers whose places differ by more: |y| is below half a step of x, and below a whole step of the number before x.
-pub fn far_sum(scale: Scale, x: Wide, y: Wide, gap: u32) -> SignedCut
-    requires { ⌜ Scaled scale × Operand scale x × Operand scale y × (x .place ≡ y .place + gap) × (scale .digits < gap) × (1 ≤ y .significand) ⌝ }
-    ensures { λ r. ⌜ SumCut scale (valueOf (scale .base) x +ℤ valueOf (scale .base) y) r ⌝ }
+// The cut of a sum of two numbers whose places differ by more, with the sign of x: |y| is below half a step of x, and below a whole step
+// of the number before x.
+fn far_cut(scale: Scale, x: Wide, y: Wide, gap: u32) -> Cut
+    requires { ⌜ Scaled scale × Bounded scale x × Bounded scale y × (x .place ≡ y .place + gap) × (scale .digits < gap) ⌝ }
+    ensures { λ r. ⌜ SumCut scale (valueOf (scale .base) x +ℤ valueOf (scale .base) y) (x .negative) r ⌝ }
 {
     let m = x.significand;
     let place = x.place;
-    let negative = x.negative;
-    let differ = negative != y.negative;
+    if y.significand == 0 {
+        return Cut {
+            steps: m,
+            place: place,
+            location: Location::Exact,
+        };
+    }
+    let differ = x.negative != y.negative;
     if differ & (m <= scale.full) {
-        let cut = Cut {
+        return Cut {
             steps: scale.top - 1,
             place: place - 1,
             location: below_power(scale, y.significand, gap),
-        };
-        return SignedCut {
-            negative: negative,
-            cut: cut,
         };
     }
     let location = if differ {
@@ -111,44 +111,29 @@ pub fn far_sum(scale: Scale, x: Wide, y: Wide, gap: u32) -> SignedCut
     } else {
         Location::Below
     };
-    let cut = Cut {
+    Cut {
         steps: m - differ as Significand,
         place: place,
         location: location,
-    };
-    SignedCut {
-        negative: negative,
-        cut: cut,
     }
 }
 
-// The sum of two numbers, the one with the higher place first.
-fn ordered_sum(scale: Scale, x: Wide, y: Wide) -> SignedCut
-    requires { ⌜ Scaled scale × Operand scale x × Operand scale y × (y .place ≤ x .place) ⌝ }
-    ensures { λ r. ⌜ SumCut scale (valueOf (scale .base) x +ℤ valueOf (scale .base) y) r ⌝ }
+// x + y, rounded, where x has the higher place, `gap` places above that of y.
+pub fn aligned_sum(scale: Scale, direction: Direction, x: Wide, y: Wide, gap: u32) -> Wide
+    requires { ⌜ Scaled scale × Bounded scale x × Bounded scale y × (x .place ≡ y .place + gap) ⌝ }
+    ensures { λ r. ⌜ RoundsZ (scale .base) (scale .digits) direction (valueOf (scale .base) x +ℤ valueOf (scale .base) y) r ⌝ }
 {
-    let gap = x.place - y.place;
     if gap <= scale.digits {
-        return near_sum(scale, x, y, gap);
+        return near_sum(scale, direction, x, y, gap);
     }
-    if y.significand == 0 {
-        let cut = Cut {
-            steps: x.significand,
-            place: x.place,
-            location: Location::Exact,
-        };
-        return SignedCut {
-            negative: x.negative,
-            cut: cut,
-        };
-    }
-    far_sum(scale, x, y, gap)
+    let cut = far_cut(scale, x, y, gap);
+    finish(scale, direction, x.negative, cut)
 }
 
-// The sum of two numbers, in either order.
-fn sum_cut(scale: Scale, x: Wide, y: Wide) -> SignedCut
-    requires { ⌜ Scaled scale × Operand scale x × Operand scale y ⌝ }
-    ensures { λ r. ⌜ SumCut scale (valueOf (scale .base) x +ℤ valueOf (scale .base) y) r ⌝ }
+// x + y, rounded, in either order.
+pub fn sum(scale: Scale, direction: Direction, x: Wide, y: Wide) -> Wide
+    requires { ⌜ Scaled scale × Bounded scale x × Bounded scale y ⌝ }
+    ensures { λ r. ⌜ RoundsZ (scale .base) (scale .digits) direction (valueOf (scale .base) x +ℤ valueOf (scale .base) y) r ⌝ }
 {
     let mut high = x;
     let mut low = y;
@@ -156,23 +141,6 @@ fn sum_cut(scale: Scale, x: Wide, y: Wide) -> SignedCut
         high = y;
         low = x;
     }
-    ordered_sum(scale, high, low)
-}
-
-// x + y, rounded, where its cut is at hand.
-pub fn round_sum(scale: Scale, direction: Direction, x: Wide, y: Wide, exact: SignedCut) -> Wide
-    requires { ⌜ Scaled scale × Operand scale x × Operand scale y × SumCut scale (valueOf (scale .base) x +ℤ valueOf (scale .base) y) exact ⌝ }
-    ensures { λ r. ⌜ r ≡ summed (scale .base) (scale .digits) direction x y ⌝ }
-{
-    let cut = exact.cut;
-    deliver(scale, direction, exact.negative, cut)
-}
-
-// x + y, rounded.
-pub fn sum(scale: Scale, direction: Direction, x: Wide, y: Wide) -> Wide
-    requires { ⌜ Scaled scale × Operand scale x × Operand scale y ⌝ }
-    ensures { λ r. ⌜ r ≡ summed (scale .base) (scale .digits) direction x y ⌝ }
-{
-    let exact = sum_cut(scale, x, y);
-    round_sum(scale, direction, x, y, exact)
+    let gap = high.place - low.place;
+    aligned_sum(scale, direction, high, low, gap)
 }

@@ -1,10 +1,5 @@
 -- `arithmetic::fraction::divide_whole` meets its contract: the fraction in the wide format, delivered.
-use borrow.Author.Needs.{needs}
-use Prim.Native.Nat.{_^_, _≤_, _<_}
-use mathlib.Core.Path.{_≡_, sym, _∙_}
-use native.Mathlib.Omega.{arith}
-use mir.Syntax.{w32}
-use mir.Val.{SFits}
+use Rattle.theory.proofs.Prelude.{_≤_, _<_, _^_, _∙_, _≡_, sym, arith, w32, SFits, needs}
 use Rattle.format.proofs.Signed.{back}
 use Rattle.number.specs.Exponents.{aboveZero, belowZero}
 use Rattle.number.proofs.Membership.{known}
@@ -68,11 +63,5 @@ pub divide-whole-spec : {M : Type 1} → statement M
 divide-whole-spec =
     tie.close
     (tie.spec
-    returns
-    below-zero-requires
-    (λ c κs. search needs)
-    (λ c κs. search needs)
-    (λ c κs. search needs)
-    fraction-requires
-    deliver-wide-requires
+    returns below-zero-requires (λ c κs. search needs) (λ c κs. search needs) (λ c κs. search needs) fraction-requires deliver-wide-requires
     returns-2)

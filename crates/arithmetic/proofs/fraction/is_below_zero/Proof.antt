@@ -1,14 +1,11 @@
 -- `arithmetic::fraction::is_below_zero` meets its contract.
-use mathlib.Core.Path.{_≡_}
-use native.Mathlib.Omega.{arith}
-use lib.IntN.{ℤ, pos, negsuc}
-use lib.Signed.{ltZ}
-use Rattle.theory.specs.Signed.{is-negative}
+use Rattle.theory.proofs.Prelude.{_≡_, arith, ℤ, pos, negsuc, ltZ}
+use Rattle.theory.specs.Signed.{isNegative}
 use Rattle.format.proofs.Signed.{back, make-lt, make-ge}
 use Rattle.arithmetic.proofs.fraction.is_below_zero.Statement.{statement}
 use Rattle.arithmetic.proofs.fraction.is_below_zero.Tie as tie
 
-below-zero : (z : ℤ) → ltZ z (pos 0) ≡ is-negative z
+below-zero : (z : ℤ) → ltZ z (pos 0) ≡ isNegative z
 below-zero (pos n) = make-ge (pos n) (pos 0) (omega arith)
 below-zero (negsuc n) = make-lt (negsuc n) (pos 0) (omega arith)
 

@@ -1,11 +1,5 @@
 -- `arithmetic::fraction::size` meets its contract: of n below zero, n + 1 and its negation have 32 bits.
-use Prim.Native.Nat.{_+_, _^_, _≤_}
-use mathlib.Core.Path.{_≡_}
-use native.Mathlib.Omega.{arith}
-use lib.IntN.{ℤ, pos, negsuc, _+ℤ_, _-ℤ_}
-use mir.Syntax.{w32}
-use mir.Val.{SFits, toZ, ofZ}
-use mir.Facts.{fits-natAbs, sfits-lit}
+use Rattle.theory.proofs.Prelude.{_≤_, _+_, _^_, _≡_, arith, ℤ, pos, _+ℤ_, _-ℤ_, negsuc, fits-natAbs, sfits-lit, w32, SFits, toZ, ofZ}
 use Rattle.theory.proofs.Integers.{above, below, sum-parts, diff-parts, size-parts}
 use Rattle.format.proofs.Signed.{Under, apart, fits, not-negative, back, lt-taken, lt-left}
 use Rattle.arithmetic.proofs.fraction.size.Statement.{statement}

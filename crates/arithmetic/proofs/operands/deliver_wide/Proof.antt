@@ -1,5 +1,5 @@
 -- `arithmetic::operands::deliver_wide` meets its contract.
-use borrow.Author.Needs.{needs}
+use Rattle.theory.proofs.Prelude.{needs}
 use Rattle.arithmetic.proofs.operands.deliver_wide.Statement.{statement}
 use Rattle.arithmetic.proofs.operands.deliver_wide.Tie as tie
 

@@ -1,10 +1,5 @@
 -- `arithmetic::operands::wide_of` meets its contract.
-use borrow.Author.Needs.{needs}
-use mathlib.Core.Path.{ap, _∙_}
-use native.Mathlib.Omega.{arith}
-use Prim.Native.Nat.{ℕ}
-use mir.Syntax.{w32}
-use mir.Val.{SFits}
+use Rattle.theory.proofs.Prelude.{ℕ, _∙_, ap, arith, w32, SFits, needs}
 use Rattle.format.proofs.Signed.{back}
 use Rattle.format.proofs.Formats.{exponents-made}
 use Rattle.number.proofs.Membership.{members, known}
@@ -20,8 +15,8 @@ exponent-fits c = search needs
 distance-requires : tie.Need-distance-requires
 distance-requires c κs =
     let s = c .before .before in
-    let ok = known (s .pre .0) .admits in
-    let i = members (s .args .x) ok (s .pre .1) in
+    let ok = known (s .pre .usable) .admits in
+    let i = members (s .args .x) ok (s .pre .number) in
     let r = ok .range in
     rw (back (emin-fits s), back (exponent-fits s))
     (exponents-made (record { emin-low = r .emin-low; emin-emax = i .exponent-low; emax-high = omega (arith, i .exponent-high) }))

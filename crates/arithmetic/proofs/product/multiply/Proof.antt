@@ -1,15 +1,11 @@
 -- `arithmetic::product::multiply` meets its contract: the product in the wide format, delivered.
-use borrow.Author.Needs.{needs}
-use Prim.Native.Nat.{_^_, _<_}
-use mathlib.Core.Path.{_≡_, _∙_}
-use mir.Syntax.{w32}
-use mir.Val.{SFits}
+use Rattle.theory.proofs.Prelude.{_<_, _^_, _∙_, _≡_, w32, SFits, needs}
 use Rattle.format.proofs.Signed.{back}
 use Rattle.number.specs.Exponents.{aboveZero, belowZero}
 use Rattle.number.proofs.Membership.{known}
 use Rattle.number.proofs.Values.{emin-admitted}
 use Rattle.arithmetic.specs.Operations.{roundedProduct}
-use Rattle.arithmetic.proofs.Prepared.{Delivers, above-most, below-most, scale-scaled, operand, product-delivers}
+use Rattle.arithmetic.proofs.Prepared.{Delivers, above-most, below-most, scale-scaled, bounded, product-delivers}
 use Rattle.arithmetic.proofs.product.multiply.Statement.{statement}
 use Rattle.arithmetic.proofs.product.multiply.Tie as tie
 
@@ -25,7 +21,7 @@ operands c = c .before .before .before .before
 below-zero-requires : tie.Need-below-zero-requires
 below-zero-requires c κs =
     let s = start (c .before .before .before) in
-    rw (back (emin-fits s)) (emin-admitted (known (s .pre .0) .admits))
+    rw (back (emin-fits s)) (emin-admitted (known (s .pre .usable) .admits))
 
 -- the unit's exponent
 up : (c : tie.After-below-zero) → c .before .before .above-zero .result ≡ aboveZero (start (operands c) .args .prepared .format .emin)
@@ -39,10 +35,10 @@ product-requires c κs =
     let o = operands c in
     let s = start o in
     let p = s .pre in
-    let ok = known (p .0) .admits in
-    let scale = scale-scaled (p .0) in
-    let x = operand (p .0) (s .args .a) (p .1) (o .before .wide-of .ensures) in
-    let y = operand (p .0) (s .args .b) (p .2) (o .wide-of2 .ensures) in
+    let ok = known (p .usable) .admits in
+    let scale = scale-scaled (p .usable) in
+    let x = bounded (p .usable) (s .args .a) (p .first) (o .before .wide-of .ensures) in
+    let y = bounded (p .usable) (s .args .b) (p .second) (o .wide-of2 .ensures) in
     let u : c .before .before .above-zero .result < 2 ^ 28 = rw (up c) (above-most ok) in
     let d : c .below-zero .result < 2 ^ 28 = rw (down c) (below-most ok) in
     search needs
@@ -53,10 +49,10 @@ result : (c : tie.After-product) → let s = start (operands (c .before)) .args 
 result c =
     let o = operands (c .before) in
     let s = start o in
-    product-delivers (s .pre .0) (s .args .direction) (s .args .a) (s .args .b) (o .before .wide-of .ensures) (o .wide-of2 .ensures) (up (c .before)) (down (c .before)) (c .product .ensures)
+    product-delivers (s .pre .usable) (s .args .direction) (s .args .a) (s .args .b) (o .before .wide-of .ensures) (o .wide-of2 .ensures) (up (c .before)) (down (c .before)) (c .product .ensures)
 
 deliver-wide-requires : tie.Need-deliver-wide-requires
-deliver-wide-requires c κs = (start (operands (c .before)) .pre .0, result c .canonical)
+deliver-wide-requires c κs = (start (operands (c .before)) .pre .usable, result c .canonical)
 
 returns : tie.Need-returns
 returns c = c .deliver-wide .ensures ∙ result (c .before) .is
@@ -65,10 +61,4 @@ pub multiply-spec : {M : Type 1} → statement M
 multiply-spec =
     tie.close
     (tie.spec
-    (λ c κs. search needs)
-    (λ c κs. search needs)
-    (λ c κs. search needs)
-    below-zero-requires
-    product-requires
-    deliver-wide-requires
-    returns)
+    (λ c κs. search needs) (λ c κs. search needs) (λ c κs. search needs) below-zero-requires product-requires deliver-wide-requires returns)

@@ -1,14 +1,12 @@
 -- `arithmetic::product::product` meets its contract.
-use borrow.Author.Needs.{needs}
-use mathlib.Core.Path.{_≡_, sym, _∙_}
-use mathlib.Core.List.{[], _∷_}
+use Rattle.theory.proofs.Prelude.{[], _∷_, _∙_, ap, _≡_, sym, needs}
 use Rattle.theory.specs.declared.Direction.{Direction}
 use Rattle.format.specs.declared.Format.{Format}
 use Rattle.format.specs.declared.Preparation.the-variants.{Ready}
-use Rattle.number.specs.Entry.{entered}
-use Rattle.number.proofs.Entries.{ends, prepared-entered}
+use Rattle.format.specs.Directions.{direction}
+use Rattle.number.specs.Checks.{entered}
+use Rattle.number.proofs.CheckLaws.{prepared-entered, direction-after, number-after, passed, first-direction, operands, answered, ends}
 use Rattle.arithmetic.specs.Operations.{roundedProduct, multiplied}
-use Rattle.arithmetic.proofs.Entered.{operation, answered}
 use Rattle.arithmetic.proofs.product.product.Statement.{statement}
 use Rattle.arithmetic.proofs.product.product.Tie as tie
 
@@ -18,25 +16,23 @@ checked : (c : tie.After-with-number2) → let s = c .before .before .before .be
 checked c =
     let n = c .before in
     let d = n .before in
-    c .with-number2 .ensures _ _ _
-    (n .with-number .ensures _ _ _ (d .with-direction .ensures _ _ (d .before .prepare .ensures ∙ prepared-entered _)))
+    c .with-number2 .ensures
+    ∙ number-after _ _ _ _ (n .with-number .ensures ∙ number-after _ _ _ _ (d .with-direction .ensures ∙ direction-after _ _ _ (d .before .prepare .ensures ∙ prepared-entered _)))
 
 -- they were passed
-passed : (c : tie.After-prepared) → let s = c .before .before .before .before .before .before .args in
+ready : (c : tie.After-prepared) → let s = c .before .before .before .before .before .before .args in
     entered (s .format) (s .direction ∷ []) (s .a ∷ s .b ∷ []) ≡ Ready (c .prepared .given .0 .0)
-passed c = sym (checked (c .before .before)) ∙ c .prepared .given .1
+ready c = sym (checked (c .before .before)) ∙ c .prepared .given .1
 
 direction-of-requires : tie.Need-direction-of-requires
-direction-of-requires c κs = operation _ _ _ _ (passed (c .before)) .entrance .directed
+direction-of-requires c κs = first-direction (passed _ _ _ (ready (c .before)))
 
 multiply-requires : tie.Need-multiply-requires
-multiply-requires c κs = let o = operation _ _ _ _ (passed (c .before .before)) in (o .entrance .usable, o .first, o .second)
+multiply-requires c κs = operands (passed _ _ _ (ready (c .before .before)))
 
 returns : tie.Need-returns
 unfolding multiplied
-returns c =
-    let w = c .before in
-    ends _ _ _ _ _ (sym (checked (w .before .before)) ∙ w .why .given .1)
+returns c = let w = c .before in ends _ _ _ _ (sym (checked (w .before .before)) ∙ w .why .given .1)
 
 returns-2 : tie.Need-returns-2
 unfolding multiplied
@@ -44,19 +40,13 @@ returns-2 c =
     let d = c .before in
     let p = d .before .before in
     let s = p .before .before .before .before .before .before .args in
-    answered _ _ _ (passed p) (λ (f : Format) (t : Direction). roundedProduct f t (s .a) (s .b)) (d .direction-of .ensures) (c .multiply .ensures)
+    c .multiply .ensures
+    ∙ ap (λ (t : Direction). roundedProduct (p .prepared .given .0 .0 .format) t (s .a) (s .b)) (d .direction-of .ensures)
+    ∙ answered _ _ _ (λ (f : Format). roundedProduct f (direction (s .direction)) (s .a) (s .b)) (ready p)
 
 pub product-spec : {M : Type 1} → statement M
 product-spec =
     tie.close
     (tie.spec
-    (λ c κs. search needs)
-    (λ c κs. search needs)
-    (λ c κs. search needs)
-    (λ c κs. search needs)
-    (λ c. search needs)
-    (λ c. search needs)
-    direction-of-requires
-    multiply-requires
-    returns
-    returns-2)
+    (λ c κs. search needs) (λ c κs. search needs) (λ c κs. search needs) (λ c κs. search needs) (λ c. search needs) (λ c. search needs)
+    direction-of-requires multiply-requires returns returns-2)

@@ -1,16 +1,11 @@
 -- `arithmetic::quotient::divide` meets its contract: the quotient in the wide format, delivered.
-use borrow.Author.Needs.{needs}
-use Prim.Native.Nat.{_^_, _≤_, _<_}
-use mathlib.Core.Path.{_≡_, sym, _∙_}
-use native.Mathlib.Omega.{arith}
-use mir.Syntax.{w32}
-use mir.Val.{SFits}
+use Rattle.theory.proofs.Prelude.{_≤_, _<_, _^_, _∙_, _≡_, sym, arith, w32, SFits, needs}
 use Rattle.format.proofs.Signed.{back}
 use Rattle.number.specs.Exponents.{aboveZero, belowZero}
 use Rattle.number.proofs.Membership.{known}
 use Rattle.number.proofs.Values.{emin-admitted}
 use Rattle.arithmetic.specs.Operations.{roundedQuotient}
-use Rattle.arithmetic.proofs.Prepared.{Delivers, above-most, below-most, divisor-none, scale-scaled, operand, quotient-delivers}
+use Rattle.arithmetic.proofs.Prepared.{Delivers, above-most, below-most, divisor-none, scale-scaled, bounded, quotient-delivers}
 use Rattle.arithmetic.proofs.quotient.divide.Statement.{statement}
 use Rattle.arithmetic.proofs.quotient.divide.Tie as tie
 
@@ -33,7 +28,7 @@ operands c = c .before .before .before .before
 below-zero-requires : tie.Need-below-zero-requires
 below-zero-requires c κs =
     let s = start (c .before) in
-    rw (back (emin-fits s)) (emin-admitted (known (s .pre .0) .admits))
+    rw (back (emin-fits s)) (emin-admitted (known (s .pre .usable) .admits))
 
 -- the unit's exponent
 up : (c : tie.After-above-zero) → c .before .before .below-zero .result ≡ belowZero (start (operands c) .args .prepared .format .emin)
@@ -47,10 +42,10 @@ quotient-requires c κs =
     let o = operands c in
     let s = start o in
     let p = s .pre in
-    let ok = known (p .0) .admits in
-    let scale = scale-scaled (p .0) in
-    let x = operand (p .0) (s .args .a) (p .1) (o .before .wide-of .ensures) in
-    let y = operand (p .0) (s .args .b) (p .2) (o .wide-of2 .ensures) in
+    let ok = known (p .usable) .admits in
+    let scale = scale-scaled (p .usable) in
+    let x = bounded (p .usable) (s .args .a) (p .first) (o .before .wide-of .ensures) in
+    let y = bounded (p .usable) (s .args .b) (p .second) (o .wide-of2 .ensures) in
     let divisor : 1 ≤ o .wide-of2 .result .significand = rw (o .wide-of2 .ensures) (some o) in
     let u : c .before .before .below-zero .result < 2 ^ 28 = rw (up c) (below-most ok) in
     let d : c .above-zero .result < 2 ^ 28 = rw (down c) (above-most ok) in
@@ -62,10 +57,10 @@ result : (c : tie.After-quotient) → let s = start (operands (c .before)) .args
 result c =
     let o = operands (c .before) in
     let s = start o in
-    quotient-delivers (s .pre .0) (s .args .direction) (s .args .a) (s .args .b) (o .before .wide-of .ensures) (o .wide-of2 .ensures) (some o) (up (c .before)) (down (c .before)) (c .quotient .ensures)
+    quotient-delivers (s .pre .usable) (s .args .direction) (s .args .a) (s .args .b) (o .before .wide-of .ensures) (o .wide-of2 .ensures) (some o) (up (c .before)) (down (c .before)) (c .quotient .ensures)
 
 deliver-wide-requires : tie.Need-deliver-wide-requires
-deliver-wide-requires c κs = (start (operands (c .before)) .pre .0, result c .canonical)
+deliver-wide-requires c κs = (start (operands (c .before)) .pre .usable, result c .canonical)
 
 returns-2 : tie.Need-returns-2
 returns-2 c = c .deliver-wide .ensures ∙ result (c .before) .is
@@ -74,11 +69,5 @@ pub divide-spec : {M : Type 1} → statement M
 divide-spec =
     tie.close
     (tie.spec
-    returns
-    (λ c κs. search needs)
-    (λ c κs. search needs)
-    below-zero-requires
-    (λ c κs. search needs)
-    quotient-requires
-    deliver-wide-requires
+    returns (λ c κs. search needs) (λ c κs. search needs) below-zero-requires (λ c κs. search needs) quotient-requires deliver-wide-requires
     returns-2)

@@ -1,7 +1,5 @@
 -- `arithmetic::sum::subtract` meets its contract: the sum with the second number negated.
-use borrow.Author.Needs.{needs}
-use mathlib.Core.Path.{ap, _∙_}
-use lib.IntN.{ℤ, _+ℤ_}
+use Rattle.theory.proofs.Prelude.{_∙_, ap, ℤ, _+ℤ_, needs}
 use Rattle.number.specs.Numbers.{value}
 use Rattle.number.proofs.Membership.{known}
 use Rattle.arithmetic.specs.Operations.{roundedZ}
@@ -13,7 +11,7 @@ add-requires : tie.Need-add-requires
 add-requires c κs =
     let s = c .before .before in
     let p = s .pre in
-    (p .0, p .1, turned-member (known (p .0) .admits) (s .args .b) (p .2) (c .with-sign .ensures))
+    record { usable = p .usable; first = p .first; second = turned-member (known (p .usable) .admits) (s .args .b) (p .second) (c .with-sign .ensures) }
 
 returns : tie.Need-returns
 returns c =
@@ -21,7 +19,7 @@ returns c =
     let f = s .args .prepared .format in
     c .add .ensures
     ∙ ap (λ (v : ℤ). roundedZ f (s .args .direction) (value f (s .args .a) +ℤ v))
-    (turned-value (known (s .pre .0) .admits) (s .args .b) (s .pre .2) (c .before .with-sign .ensures))
+    (turned-value (known (s .pre .usable) .admits) (s .args .b) (s .pre .second) (c .before .with-sign .ensures))
 
 pub subtract-spec : {M : Type 1} → statement M
 subtract-spec = tie.close (tie.spec (λ c κs. search needs) add-requires returns)

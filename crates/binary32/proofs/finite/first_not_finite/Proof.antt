@@ -1,11 +1,6 @@
 -- `binary32::finite::first_not_finite` meets its contract: every pattern that was passed is finite.
-use borrow.Author.Needs.{needs}
+use Rattle.theory.proofs.Prelude.{ℕ, _≤_, _<_, _-_, false, _∙_, _≡_, sym, arith, length, getD, needs}
 use borrow.Author.Count.{below-more}
-use Prim.Native.Nat.{ℕ, _≤_, _<_, _-_}
-use mathlib.Core.Path.{_≡_, sym, _∙_}
-use mathlib.Core.Bool.{false}
-use native.Mathlib.Omega.{arith}
-use lib.ListN.{length, getD}
 use Rattle.theory.proofs.Lists.{first-is, first-none}
 use Rattle.binary32.specs.Patterns.{notFinite}
 use Rattle.binary32.proofs.PatternValues.{finite-passes, finite-stops}
@@ -40,14 +35,5 @@ pub first-not-finite-spec : {M : Type 1} → statement M
 first-not-finite-spec =
     tie.close
     (tie.spec
-    Inv-loop
-    μ-loop
-    loop-holds
-    (λ c. search needs)
-    (λ c. search needs)
-    (λ c κs. search needs)
-    returns
-    (λ c. search needs)
-    (λ c. search needs)
-    loop-again
-    returns-2)
+    Inv-loop μ-loop loop-holds (λ c. search needs) (λ c. search needs) (λ c κs. search needs) returns (λ c. search needs) (λ c. search needs)
+    loop-again returns-2)

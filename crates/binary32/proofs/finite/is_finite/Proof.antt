@@ -1,5 +1,5 @@
 -- `binary32::finite::is_finite` meets its contract.
-use borrow.Author.Needs.{needs}
+use Rattle.theory.proofs.Prelude.{needs}
 use Rattle.binary32.proofs.PatternValues.{field-finite}
 use Rattle.binary32.proofs.finite.is_finite.Statement.{statement}
 use Rattle.binary32.proofs.finite.is_finite.Tie as tie

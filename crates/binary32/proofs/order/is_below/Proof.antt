@@ -1,5 +1,5 @@
 -- `binary32::order::is_below` meets its contract.
-use borrow.Author.Needs.{needs}
+use Rattle.theory.proofs.Prelude.{needs}
 use Rattle.binary32.proofs.PatternValues.{key-order}
 use Rattle.binary32.proofs.order.is_below.Statement.{statement}
 use Rattle.binary32.proofs.order.is_below.Tie as tie

@@ -1,5 +1,5 @@
 -- `binary32::order::is_equal` meets its contract.
-use borrow.Author.Needs.{needs}
+use Rattle.theory.proofs.Prelude.{needs}
 use Rattle.binary32.proofs.PatternValues.{key-equal}
 use Rattle.binary32.proofs.order.is_equal.Statement.{statement}
 use Rattle.binary32.proofs.order.is_equal.Tie as tie

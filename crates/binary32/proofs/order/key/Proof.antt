@@ -1,5 +1,5 @@
 -- `binary32::order::key` meets its contract.
-use borrow.Author.Needs.{needs}
+use Rattle.theory.proofs.Prelude.{needs}
 use Rattle.binary32.proofs.PatternValues.{key-minus, key-plus}
 use Rattle.binary32.proofs.order.key.Statement.{statement}
 use Rattle.binary32.proofs.order.key.Tie as tie

@@ -1,12 +1,5 @@
 -- `binary32::patterns::pattern_of` meets its contract: the place is at most 253.
-use borrow.Author.Needs.{needs}
-use Prim.Native.Nat.{_^_, _≤_, _<_}
-use mathlib.Core.Path.{_≡_, ap, _∙_}
-use mathlib.Core.Bool.{Bool, true, false, cond}
-use native.Mathlib.Omega.{arith}
-use lib.IntN.{ℤ, negsuc, natAbs, _-ℤ_}
-use mir.Syntax.{w32}
-use mir.Val.{SFits}
+use Rattle.theory.proofs.Prelude.{_≤_, _<_, _^_, true, false, Bool, cond, _∙_, ap, _≡_, arith, ℤ, natAbs, _-ℤ_, negsuc, w32, SFits, needs}
 use Rattle.format.specs.Published.{binary32}
 use Rattle.format.proofs.Signed.{back}
 use Rattle.format.proofs.Formats.{exponents-made}

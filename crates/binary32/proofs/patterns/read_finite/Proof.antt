@@ -1,15 +1,11 @@
 -- `binary32::patterns::read_finite` meets its contract.
-use borrow.Author.Needs.{needs}
-use Prim.Native.Nat.{ℕ, _*_, _-_, _^_, _≤_}
-use mathlib.Core.Path.{_≡_, refl, sym, ap, _∙_}
-use mathlib.Core.Bool.{Bool, true}
-use native.Mathlib.Omega.{arith}
+use Rattle.theory.proofs.Prelude.{ℕ, _≤_, _^_, _*_, _-_, true, Bool, _∙_, ap, _≡_, sym, refl, arith, needs}
 use Rattle.theory.specs.Wide.{Canonical}
 use Rattle.format.specs.declared.Prepared.{Prepared}
 use Rattle.format.specs.Formats.{preparedOf}
 use Rattle.format.specs.Published.{binary32}
 use Rattle.number.specs.declared.Number.{Number}
-use Rattle.number.specs.Entry.{Usable}
+use Rattle.number.specs.Checks.{Usable}
 use Rattle.number.specs.Numbers.{number}
 use Rattle.number.proofs.Membership.{usable}
 use Rattle.binary32.specs.Patterns.{fieldOf, fractionOf, finite, magnitudeRead, numberRead}
@@ -54,9 +50,4 @@ pub read-finite-spec : {M : Type 1} → statement M
 read-finite-spec =
     tie.close
     (tie.spec
-    (λ c κs. search needs)
-    (λ c κs. search needs)
-    (λ c κs. search needs)
-    (λ c κs. search needs)
-    number-at-requires
-    returns)
+    (λ c κs. search needs) (λ c κs. search needs) (λ c κs. search needs) (λ c κs. search needs) number-at-requires returns)

@@ -1,9 +1,7 @@
 -- `binary32::patterns::read_pattern` meets its contract.
-use borrow.Author.Needs.{needs}
-use mathlib.Core.Path.{_≡_, sym, ap, _∙_}
-use borrow.Author.Tests.{eq-eqb, ne-eqb}
+use Rattle.theory.proofs.Prelude.{_∙_, ap, _≡_, sym, needs, ne-eqb, eq-eqb}
 use Rattle.theory.proofs.Tests.{unless-passed, unless-failed}
-use Rattle.number.specs.declared.Answer.the-variants.{Value}
+use Rattle.format.specs.Given.{Given, gives, refused}
 use Rattle.binary32.specs.Patterns.{fieldOf, finite, patternRead}
 use Rattle.binary32.proofs.patterns.read_pattern.Statement.{statement}
 use Rattle.binary32.proofs.patterns.read_pattern.Tie as tie
@@ -20,7 +18,7 @@ read-finite-requires c κs = rw (ne-eqb (fieldOf (c .before .before .args .patte
 
 returns-2 : tie.Need-returns-2
 unfolding patternRead
-returns-2 c = ap Value (c .read-finite .ensures) ∙ sym (unless-passed _ _ (read-finite-requires (c .before) tt))
+returns-2 c = ap gives (c .read-finite .ensures) ∙ sym (unless-passed _ _ (read-finite-requires (c .before) tt))
 
 pub read-pattern-spec : {M : Type 1} → statement M
 read-pattern-spec = tie.close (tie.spec (λ c κs. search needs) returns read-finite-requires returns-2)

@@ -1,6 +1,5 @@
 -- `binary32::patterns::significand_of` meets its contract.
-use borrow.Author.Needs.{needs}
-use borrow.Author.Tests.{eq-eqb, ne-eqb}
+use Rattle.theory.proofs.Prelude.{needs, ne-eqb, eq-eqb}
 use Rattle.binary32.proofs.patterns.significand_of.Statement.{statement}
 use Rattle.binary32.proofs.patterns.significand_of.Tie as tie
 

@@ -1,15 +1,13 @@
 -- `binary32::patterns::write_pattern` meets its contract.
-use borrow.Author.Needs.{needs}
-use mathlib.Core.Path.{_≡_, sym, ap, _∙_}
-use mathlib.Core.List.{[], _∷_}
+use Rattle.theory.proofs.Prelude.{[], _∷_, _∙_, ap, _≡_, sym, needs}
 use Rattle.format.specs.declared.Prepared.{Prepared}
 use Rattle.format.specs.declared.Preparation.the-variants.{Ready}
 use Rattle.format.specs.Formats.{preparedOf, preparation}
+use Rattle.format.specs.Given.{gives}
 use Rattle.format.specs.Published.{binary32}
 use Rattle.theory.proofs.Tests.{unless-passed}
-use Rattle.number.specs.Entry.{entered}
-use Rattle.number.proofs.Entries.{passed, one-member, prepared-entered, goes-on, ends}
-use Rattle.binary32.specs.declared.Pattern.the-variants.{Written}
+use Rattle.number.specs.Checks.{entered}
+use Rattle.number.proofs.CheckLaws.{passed, one-member, prepared-entered, number-after, goes-on, ends}
 use Rattle.binary32.specs.Patterns.{patternWritten}
 use Rattle.binary32.proofs.Fields.{binary32-admitted}
 use Rattle.binary32.proofs.patterns.write_pattern.Statement.{statement}
@@ -21,29 +19,23 @@ unfolding preparation
 ready e = ap Ready e ∙ sym (unless-passed _ _ binary32-admitted) ∙ prepared-entered binary32
 
 checked : (c : tie.After-with-number) → c .with-number .result ≡ entered binary32 [] (c .before .before .args .x ∷ [])
-checked c = c .with-number .ensures _ _ _ (ready (c .before .prepared-binary32 .ensures))
+checked c = c .with-number .ensures ∙ number-after _ _ _ _ (ready (c .before .prepared-binary32 .ensures))
 
 pattern-of-requires : tie.Need-pattern-of-requires
 pattern-of-requires c κs = one-member (passed _ _ _ (sym (checked (c .before .before)) ∙ c .enum-told .given .1))
 
 returns : tie.Need-returns
 unfolding patternWritten
-returns c = ends _ _ _ _ _ (sym (checked (c .before .before .before)) ∙ c .before .why .given .1)
+returns c = ends _ _ _ _ (sym (checked (c .before .before .before)) ∙ c .before .why .given .1)
 
 returns-2 : tie.Need-returns-2
 unfolding patternWritten
 returns-2 c =
     let k = c .before in
-    ap Written (c .pattern-of .ensures) ∙ goes-on _ _ _ _ _ (sym (checked (k .before .before)) ∙ k .enum-told .given .1)
+    ap gives (c .pattern-of .ensures) ∙ goes-on _ _ _ _ (sym (checked (k .before .before)) ∙ k .enum-told .given .1)
 
 pub write-pattern-spec : {M : Type 1} → statement M
 write-pattern-spec =
     tie.close
     (tie.spec
-    (λ c κs. search needs)
-    (λ c κs. search needs)
-    (λ c. search needs)
-    (λ c. search needs)
-    pattern-of-requires
-    returns
-    returns-2)
+    (λ c κs. search needs) (λ c κs. search needs) (λ c. search needs) (λ c. search needs) pattern-of-requires returns returns-2)

@@ -1,5 +1,5 @@
 -- `binary32::places::places_of` meets its contract.
-use borrow.Author.Needs.{needs}
+use Rattle.theory.proofs.Prelude.{needs}
 use Rattle.binary32.proofs.places.places_of.Statement.{statement}
 use Rattle.binary32.proofs.places.places_of.Tie as tie
 

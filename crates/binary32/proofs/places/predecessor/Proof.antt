@@ -1,6 +1,5 @@
 -- `binary32::places::predecessor` meets its contract.
-use borrow.Author.Needs.{needs}
-use native.Mathlib.Omega.{arith}
+use Rattle.theory.proofs.Prelude.{arith, needs}
 use Rattle.binary32.proofs.Fields.{finite-field}
 use Rattle.binary32.proofs.PatternNeighbours.{no-predecessor, predecessor-minus, predecessor-zero, predecessor-plus}
 use Rattle.binary32.proofs.places.predecessor.Statement.{statement}

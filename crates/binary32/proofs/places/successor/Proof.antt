@@ -1,8 +1,6 @@
 -- `binary32::places::successor` meets its contract.
-use borrow.Author.Needs.{needs}
-use Prim.Native.Nat.{_<_}
+use Rattle.theory.proofs.Prelude.{_<_, sym, needs}
 use native.Mathlib.Numerals.{lt-of-le-of-ne}
-use mathlib.Core.Path.{sym}
 use Rattle.binary32.proofs.PatternNeighbours.{no-successor, successor-plus, successor-zero, successor-least, successor-minus}
 use Rattle.binary32.proofs.places.successor.Statement.{statement}
 use Rattle.binary32.proofs.places.successor.Tie as tie

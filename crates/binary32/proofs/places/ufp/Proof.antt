@@ -1,8 +1,5 @@
 -- `binary32::places::ufp` meets its contract.
-use borrow.Author.Needs.{needs}
-use mathlib.Core.Path.{ap, _∙_}
-use native.Mathlib.Omega.{arith}
-use Prim.Native.Nat.{_%_, _^_}
+use Rattle.theory.proofs.Prelude.{_^_, _%_, _∙_, ap, arith, needs}
 use Rattle.theory.specs.Units.{ufp}
 use Rattle.format.specs.declared.Prepared.{Prepared}
 use Rattle.format.proofs.Formats.{scaled}

@@ -1,9 +1,6 @@
 -- `binary32::places::ulp` meets its contract.
-use borrow.Author.Needs.{needs}
-use mathlib.Core.Path.{_≡_, sym}
+use Rattle.theory.proofs.Prelude.{ℕ, _≤_, _<_, _^_, _-_, _%_, _/_, _≡_, sym, arith, needs}
 use native.Mathlib.Numerals.{lt-of-le-of-ne}
-use native.Mathlib.Omega.{arith}
-use Prim.Native.Nat.{ℕ, _/_, _-_, _%_, _^_, _≤_, _<_}
 use Rattle.theory.proofs.Powers.{pow-mono}
 use Rattle.binary32.proofs.PatternPlaces.{ulp-zero, ulp-small, ulp-normal}
 use Rattle.binary32.proofs.places.ulp.Statement.{statement}

@@ -1,7 +1,8 @@
 -- `binary32_arithmetic::entry::write_answer` meets its contract.
-use borrow.Author.Needs.{needs}
-use mathlib.Core.Path.{sym, ap, _∙_}
-use Rattle.binary32.specs.declared.Pattern.the-variants.{Written}
+use Rattle.theory.proofs.Prelude.{_∙_, ap, sym, needs}
+use Rattle.format.specs.Given.{gives}
+use Rattle.number.specs.declared.NumberAnswer.{NumberAnswer}
+use Rattle.number.specs.Answers.{numberGiven}
 use Rattle.binary32.specs.Patterns.{answerWritten}
 use Rattle.binary32_arithmetic.proofs.entry.write_answer.Statement.{statement}
 use Rattle.binary32_arithmetic.proofs.entry.write_answer.Tie as tie
@@ -10,10 +11,10 @@ pattern-of-requires : tie.Need-pattern-of-requires
 pattern-of-requires c κs = let k = c .before in k .before .before .pre _ (k .answer2 .given .1)
 
 returns : tie.Need-returns
-returns c = sym (ap answerWritten (c .before .answer .given .1))
+returns c = sym (ap (λ (a : NumberAnswer). answerWritten (numberGiven a)) (c .before .answer .given .1))
 
 returns-2 : tie.Need-returns-2
-returns-2 c = ap Written (c .pattern-of .ensures) ∙ sym (ap answerWritten (c .before .before .answer2 .given .1))
+returns-2 c = ap gives (c .pattern-of .ensures) ∙ sym (ap (λ (a : NumberAnswer). answerWritten (numberGiven a)) (c .before .before .answer2 .given .1))
 
 pub write-answer-spec : {M : Type 1} → statement M
 write-answer-spec = tie.close (tie.spec (λ c. search needs) (λ c. search needs) pattern-of-requires returns returns-2)

@@ -1,5 +1,5 @@
 -- `binary32_arithmetic::exact::doubled` meets its contract.
-use borrow.Author.Needs.{needs}
+use Rattle.theory.proofs.Prelude.{needs}
 use Rattle.binary32_arithmetic.proofs.ExactSums.{twice-small, twice-full}
 use Rattle.binary32_arithmetic.proofs.exact.doubled.Statement.{statement}
 use Rattle.binary32_arithmetic.proofs.exact.doubled.Tie as tie

@@ -1,6 +1,6 @@
 -- `binary32_arithmetic::exact::is_upto` meets its contract.
 use Rattle.binary32_arithmetic.proofs.Splitting.{zero-placed, upto-told}
-use borrow.Author.Needs.{needs}
+use Rattle.theory.proofs.Prelude.{needs}
 use Rattle.binary32_arithmetic.proofs.exact.is_upto.Statement.{statement}
 use Rattle.binary32_arithmetic.proofs.exact.is_upto.Tie as tie
 

@@ -1,6 +1,6 @@
 -- `binary32_arithmetic::exact::parts_upto` meets its contract.
 use Rattle.binary32_arithmetic.proofs.Splitting.{parts-greater, parts-less, parts-even}
-use borrow.Author.Needs.{needs}
+use Rattle.theory.proofs.Prelude.{needs}
 use Rattle.binary32_arithmetic.proofs.exact.parts_upto.Statement.{statement}
 use Rattle.binary32_arithmetic.proofs.exact.parts_upto.Tie as tie
 

@@ -1,7 +1,6 @@
 -- `binary32_arithmetic::exact::reaches` meets its contract.
-use mathlib.Core.Path.{_∙_}
+use Rattle.theory.proofs.Prelude.{_∙_, needs}
 use Rattle.binary32_arithmetic.proofs.ExactSums.{sums-compared}
-use borrow.Author.Needs.{needs}
 use Rattle.binary32_arithmetic.proofs.exact.reaches.Statement.{statement}
 use Rattle.binary32_arithmetic.proofs.exact.reaches.Tie as tie
 
@@ -14,8 +13,4 @@ pub reaches-spec : {M : Type 1} → statement M
 reaches-spec =
     tie.close
     (tie.spec
-    (λ c κs. search needs)
-    (λ c κs. search needs)
-    (λ c κs. search needs)
-    (λ c κs. search needs)
-    returns)
+    (λ c κs. search needs) (λ c κs. search needs) (λ c κs. search needs) (λ c κs. search needs) returns)

@@ -1,9 +1,6 @@
 -- `binary32_arithmetic::exact::reaches_twice` meets its contract.
-use mathlib.Core.Path.{ap₂, _∙_}
-use native.Mathlib.Omega.{arith}
-use lib.IntN.{_+ℤ_}
+use Rattle.theory.proofs.Prelude.{_∙_, ap₂, arith, _+ℤ_, needs}
 use Rattle.binary32_arithmetic.proofs.ExactSums.{placed-more, sums-compared}
-use borrow.Author.Needs.{needs}
 use Rattle.binary32_arithmetic.proofs.exact.reaches_twice.Statement.{statement}
 use Rattle.binary32_arithmetic.proofs.exact.reaches_twice.Tie as tie
 
@@ -25,9 +22,4 @@ pub reaches-twice-spec : {M : Type 1} → statement M
 reaches-twice-spec =
     tie.close
     (tie.spec
-    (λ c κs. search needs)
-    (λ c κs. search needs)
-    (λ c κs. search needs)
-    (λ c κs. search needs)
-    sum-reaches-requires
-    returns)
+    (λ c κs. search needs) (λ c κs. search needs) (λ c κs. search needs) (λ c κs. search needs) sum-reaches-requires returns)

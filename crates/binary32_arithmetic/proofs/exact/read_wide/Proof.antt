@@ -2,14 +2,14 @@
 use Rattle.number.proofs.Membership.{usable, prepared-member}
 use Rattle.binary32.proofs.Fields.{binary32-admitted}
 use Rattle.binary32_arithmetic.proofs.ExactSums.{pattern-member, pattern-holds}
-use borrow.Author.Needs.{needs}
+use Rattle.theory.proofs.Prelude.{needs}
 use Rattle.binary32_arithmetic.proofs.exact.read_wide.Statement.{statement}
 use Rattle.binary32_arithmetic.proofs.exact.read_wide.Tie as tie
 
 wide-of-requires : tie.Need-wide-of-requires
 wide-of-requires c κs =
     let e = c .before .prepared-binary32 .ensures in
-    (usable binary32-admitted e, prepared-member e _ (pattern-member _ (c .before .before .pre) (c .read-finite .ensures)))
+    record { usable = usable binary32-admitted e; number = prepared-member e _ (pattern-member _ (c .before .before .pre) (c .read-finite .ensures)) }
 
 returns : tie.Need-returns
 returns c =

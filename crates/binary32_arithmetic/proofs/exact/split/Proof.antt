@@ -1,7 +1,6 @@
 -- `binary32_arithmetic::exact::split` meets its contract.
-use native.Mathlib.Omega.{arith}
+use Rattle.theory.proofs.Prelude.{arith, needs}
 use Rattle.binary32_arithmetic.proofs.Splitting.{in-order, split-told, split-turned}
-use borrow.Author.Needs.{needs}
 use Rattle.binary32_arithmetic.proofs.exact.split.Statement.{statement}
 use Rattle.binary32_arithmetic.proofs.exact.split.Tie as tie
 
@@ -27,11 +26,5 @@ pub split-spec : {M : Type 1} → statement M
 split-spec =
     tie.close
     (tie.spec
-    (λ c κs. search needs)
-    (λ c κs. search needs)
-    split-ordered-requires
-    returns
-    (λ c κs. search needs)
-    (λ c κs. search needs)
-    split-ordered-requires-2
-    returns-2)
+    (λ c κs. search needs) (λ c κs. search needs) split-ordered-requires returns (λ c κs. search needs) (λ c κs. search needs)
+    split-ordered-requires-2 returns-2)

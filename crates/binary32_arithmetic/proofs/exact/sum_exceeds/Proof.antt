@@ -1,6 +1,5 @@
 -- `binary32_arithmetic::exact::sum_exceeds` meets its contract.
-use native.Mathlib.Omega.{arith}
-use borrow.Author.Needs.{needs}
+use Rattle.theory.proofs.Prelude.{arith, needs}
 use Rattle.binary32_arithmetic.proofs.ExactSums.{turned-placed, exceeded}
 use Rattle.binary32_arithmetic.proofs.exact.sum_exceeds.Statement.{statement}
 use Rattle.binary32_arithmetic.proofs.exact.sum_exceeds.Tie as tie

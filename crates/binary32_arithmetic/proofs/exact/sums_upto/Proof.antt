@@ -1,7 +1,6 @@
 -- `binary32_arithmetic::exact::sums_upto` meets its contract.
-use mathlib.Core.Path.{_∙_}
+use Rattle.theory.proofs.Prelude.{_∙_, needs}
 use Rattle.binary32_arithmetic.proofs.Splitting.{split-order}
-use borrow.Author.Needs.{needs}
 use Rattle.binary32_arithmetic.proofs.exact.sums_upto.Statement.{statement}
 use Rattle.binary32_arithmetic.proofs.exact.sums_upto.Tie as tie
 

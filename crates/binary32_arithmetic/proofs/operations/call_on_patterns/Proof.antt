@@ -1,6 +1,5 @@
 -- `binary32_arithmetic::operations::call_on_patterns` meets its contract.
-use borrow.Author.Needs.{needs}
-use mathlib.Core.Path.{sym, ap, _∙_}
+use Rattle.theory.proofs.Prelude.{_∙_, ap, sym, needs}
 use Rattle.theory.specs.declared.Direction.{Direction}
 use Rattle.theory.proofs.Tests.{denied, granted, unless-passed, unless-failed}
 use Rattle.binary32_arithmetic.specs.Calls.{onPatterns, patternCall}

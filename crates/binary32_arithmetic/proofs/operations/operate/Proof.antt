@@ -1,12 +1,10 @@
 -- `binary32_arithmetic::operations::operate` meets its contract.
-use borrow.Author.Needs.{needs}
-use mathlib.Core.Path.{_≡_, sym, ap₂, _∙_}
-use mathlib.Core.Bool.{true}
+use Rattle.theory.proofs.Prelude.{_∙_, _≡_, sym, ap₂, needs}
 use Rattle.format.specs.declared.Format.{Format}
+use Rattle.format.specs.Given.{Given}
 use Rattle.format.specs.Published.{binary32}
-use Rattle.number.specs.declared.Answer.{Answer}
-use Rattle.number.specs.Numbers.{member}
-use Rattle.number.specs.Entry.{Usable}
+use Rattle.number.specs.declared.Number.{Number}
+use Rattle.number.specs.Checks.{Operands}
 use Rattle.number.proofs.Membership.{prepared-format, prepared-member, usable}
 use Rattle.binary32.proofs.Fields.{binary32-admitted}
 use Rattle.binary32_arithmetic.specs.declared.Operation.{Operation}
@@ -16,26 +14,26 @@ use Rattle.binary32_arithmetic.proofs.operations.operate.Tie as tie
 
 -- what each operation asks
 asked : (c : tie.After-prepared-binary32) → let q = c .prepared-binary32 .result in let s = c .before .args in
-    Usable q × (member (q .format) (s .a) ≡ true) × (member (q .format) (s .b) ≡ true)
+    Operands q (s .a) (s .b)
 asked c =
     let e = c .prepared-binary32 .ensures in
     let p = c .before .pre in
-    (usable binary32-admitted e, prepared-member e _ (p .0), prepared-member e _ (p .1))
+    record { usable = usable binary32-admitted e; first = prepared-member e _ (p .0); second = prepared-member e _ (p .1) }
 
 add-requires : tie.Need-add-requires
 add-requires c κs = asked (c .before .before)
 
 subtract-requires : tie.Need-subtract-requires
-subtract-requires c κs = let h = asked (c .before .before) in search needs
+subtract-requires c κs = asked (c .before .before)
 
 multiply-requires : tie.Need-multiply-requires
 multiply-requires c κs = asked (c .before .before)
 
 divide-requires : tie.Need-divide-requires
-divide-requires c κs = let h = asked (c .before .before) in search needs
+divide-requires c κs = asked (c .before .before)
 
 -- the operation that was told, of the prepared format, is the operation of format 2
-told : (c : tie.After-prepared-binary32) {o : Operation} {r : Answer} → c .before .args .operation ≡ o
+told : (c : tie.After-prepared-binary32) {o : Operation} {r : Given Number} → c .before .args .operation ≡ o
     → r ≡ roundedBy o (c .prepared-binary32 .result .format) (c .before .args .direction) (c .before .args .a) (c .before .args .b)
     → r ≡ roundedBy (c .before .args .operation) binary32 (c .before .args .direction) (c .before .args .a) (c .before .args .b)
 told c e h =

@@ -1,6 +1,5 @@
 -- `binary32_arithmetic::slices::are_halves` meets its contract.
-use borrow.Author.Needs.{needs}
-use mathlib.Core.Path.{sym, _∙_}
+use Rattle.theory.proofs.Prelude.{_∙_, sym, needs}
 use Rattle.theory.specs.Tests.{_and_}
 use Rattle.theory.proofs.Tests.{never, and-left, denied, granted, refuted}
 use Rattle.binary32_arithmetic.proofs.slices.are_halves.Statement.{statement}

@@ -1,26 +1,18 @@
 -- `binary32_arithmetic::slices::sum_slices` meets its contract.
-use borrow.Author.Needs.{needs}
-use borrow.Author.Tests.{eq-eqb, ne-eqb}
-use mathlib.Core.Path.{_≡_, refl, sym, ap, _∙_}
-use mathlib.Core.Bool.{true, false}
-use mathlib.Core.List.{List}
-use Prim.Native.Nat.{ℕ}
-use lib.Dec.{eqb}
-use lib.ListN.{length}
+use Rattle.theory.proofs.Prelude.{ℕ, true, false, List, _∙_, ap, _≡_, sym, refl, eqb, length, needs, ne-eqb, eq-eqb}
 use Rattle.theory.specs.Tests.{_and_}
 use Rattle.theory.specs.declared.Direction.{Direction}
 use Rattle.theory.proofs.Tests.{and-made, denied, granted, unless-passed, unless-failed}
-use Rattle.format.specs.declared.Refusal.the-variants.{NoSuchDirection, LengthsDiffer}
+use Rattle.format.specs.Given.{refused}
 use Rattle.format.specs.Directions.{isDirection, direction}
-use Rattle.binary32_arithmetic.specs.declared.SliceAnswer.the-variants.{Refused}
-use Rattle.binary32_arithmetic.specs.Slices.{entries, firstRefused, sums, slicesAnswer}
+use Rattle.binary32_arithmetic.specs.Slices.{slicesGiven, entries, firstRefused, sums, slicesAnswer}
 use Rattle.binary32_arithmetic.proofs.Passes.{never-plain}
 use Rattle.binary32_arithmetic.proofs.slices.sum_slices.Statement.{statement}
 use Rattle.binary32_arithmetic.proofs.slices.sum_slices.Tie as tie
 
 -- ---- the checks on any lists
 module _ (d : ℕ) (a b out : List ℕ) where
-  lengths-differ : eqb (length a) (length b) and eqb (length a) (length out) ≡ false → Refused LengthsDiffer ≡ slicesAnswer d a b out
+  lengths-differ : eqb (length a) (length b) and eqb (length a) (length out) ≡ false → refused 11 ≡ slicesAnswer d a b out
   unfolding slicesAnswer
   lengths-differ h = sym (unless-failed _ _ h)
 
@@ -33,7 +25,7 @@ module _ (d : ℕ) (a b out : List ℕ) where
   second-differs e h = rw (eq-eqb _ _ e, ne-eqb _ _ h, _and_)
 
   module _ (e : length a ≡ length b) (g : length a ≡ length out) where
-    no-direction : isDirection d ≡ false → Refused NoSuchDirection ≡ slicesAnswer d a b out
+    no-direction : isDirection d ≡ false → refused 2 ≡ slicesAnswer d a b out
     unfolding slicesAnswer
     no-direction h = sym (unless-passed _ _ (and-made (eq-eqb _ _ e) (eq-eqb _ _ g)) ∙ unless-failed _ _ h)
 
@@ -66,7 +58,7 @@ module _ (j : tie.After-first-refused) where
   abbrev start : tie.Start
   start = j .before .before .before .before .before .before .before .before .before
 
-  passed : j .first-refused .result ≡ slicesAnswer (start .args .direction) (start .args .a .now) (start .args .b .now) (start .args .out .now)
+  passed : slicesGiven (j .first-refused .result) ≡ slicesAnswer (start .args .direction) (start .args .a .now) (start .args .b .now) (start .args .out .now)
   passed =
       let f = j .before .before in
       let e = f .before .before in
@@ -77,17 +69,17 @@ module _ (j : tie.After-first-refused) where
 returns-4 : tie.Need-returns-4
 returns-4 c =
     let j = c .before .before .before in
-    absurd (never-plain _ (sym (j .first-refused .ensures) ∙ c .before .why .given .1))
+    absurd (never-plain _ (sym (j .first-refused .ensures) ∙ ap slicesGiven (c .before .why .given .1)))
 
 returns-5 : tie.Need-returns-5
-returns-5 c = (sym (c .before .why2 .given .1) ∙ passed (c .before .before .before), refl)
+returns-5 c = (sym (ap slicesGiven (c .before .why2 .given .1)) ∙ passed (c .before .before .before), refl)
 
 returns-6 : tie.Need-returns-6
 returns-6 c =
     let t = c .before .before .before .before in
     let j = t .before .before in
     let s = start j .args in (
-      sym (t .enum-told .given .1) ∙ passed j,
+      sym (ap slicesGiven (t .enum-told .given .1)) ∙ passed j,
       c .before .before .write-sums .ensures ∙ ap (λ (d : Direction). sums d (s .a .now) (s .b .now)) (j .before .direction-of .ensures),
     )
 
@@ -95,17 +87,5 @@ pub sum-slices-spec : {M : Type 1} → statement M
 sum-slices-spec =
     tie.close
     (tie.spec
-    returns
-    returns-2
-    (λ c κs. search needs)
-    returns-3
-    direction-of-requires
-    (λ c κs. search needs)
-    (λ c. search needs)
-    (λ c. search needs)
-    (λ c. search needs)
-    (λ c κs. search needs)
-    returns-4
-    returns-5
-    (λ c. search needs)
-    returns-6)
+    returns returns-2 (λ c κs. search needs) returns-3 direction-of-requires (λ c κs. search needs) (λ c. search needs) (λ c. search needs)
+    (λ c. search needs) (λ c κs. search needs) returns-4 returns-5 (λ c. search needs) returns-6)

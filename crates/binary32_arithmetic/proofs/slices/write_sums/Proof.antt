@@ -1,11 +1,5 @@
 -- `binary32_arithmetic::slices::write_sums` meets its contract: what is written and the sums of the rest are all sums.
-use borrow.Author.Needs.{needs}
-use native.Mathlib.Omega.{arith}
-use mathlib.Core.Path.{_≡_, sym, ap, _∙_}
-use mathlib.Core.List.{_++_, append-nil}
-use lib.Seq.{take-all}
-use Prim.Native.Nat.{_≤_, _-_, _+_}
-use lib.ListN.{length, take, drop, getD}
+use Rattle.theory.proofs.Prelude.{_≤_, _+_, _-_, _++_, append-nil, _∙_, ap, _≡_, sym, arith, length, getD, drop, take, take-all, needs}
 use Rattle.binary32_arithmetic.specs.declared.Operation.the-variants.{Sum}
 use Rattle.binary32_arithmetic.specs.Calls.{onPatterns}
 use Rattle.binary32_arithmetic.specs.Slices.{written, sums}
@@ -80,19 +74,6 @@ pub write-sums-spec : {M : Type 1} → statement M
 write-sums-spec =
     tie.close
     (tie.spec
-    Inv-loop
-    μ-loop
-    loop-holds
-    mul-operate-on-patterns
-    shared-slice-read-operate-on-patterns
-    mul-operate-on-patterns-2
-    shared-slice-read-operate-on-patterns-2
-    operate-on-patterns-requires
-    written-or-zero-requires
-    mul-out
-    slice-write-out
-    add-done
-    loop-less
-    loop-again
-    same-length
-    returns)
+    Inv-loop μ-loop loop-holds mul-operate-on-patterns shared-slice-read-operate-on-patterns mul-operate-on-patterns-2
+    shared-slice-read-operate-on-patterns-2 operate-on-patterns-requires written-or-zero-requires mul-out slice-write-out add-done loop-less
+    loop-again same-length returns)

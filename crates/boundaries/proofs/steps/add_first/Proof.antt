@@ -1,11 +1,10 @@
 -- `boundaries::steps::add_first` meets its contract.
-use borrow.Author.Needs.{needs}
-use mathlib.Core.Path.{_≡_, sym, subst, _∙_}
-use mathlib.Core.Bool.{true}
+use Rattle.theory.proofs.Prelude.{true, _∙_, ap, _≡_, sym, subst, needs}
 use Rattle.format.specs.declared.Format.{Format}
+use Rattle.number.specs.Answers.{numberGiven}
 use Rattle.number.specs.Numbers.{member}
 use Rattle.number.proofs.Membership.{known, prepared-format, prepared-member, usable}
-use Rattle.fast_two_sum.proofs.Results.{rounded-member}
+use Rattle.arithmetic.proofs.Results.{sum-member}
 use Rattle.binary32.proofs.Fields.{binary32-admitted}
 use Rattle.boundaries.proofs.StepLaws.{read-number, first-written}
 use Rattle.boundaries.proofs.steps.add_first.Statement.{statement}
@@ -17,13 +16,17 @@ add-requires c κs =
     let p = k .before in
     let s = p .before in
     let e = p .prepared-binary32 .ensures in
-    (usable binary32-admitted e, prepared-member e _ (read-number (s .args .x) (k .read-finite .ensures) (s .pre .0)), prepared-member e _ (read-number (s .args .strip) (c .read-finite2 .ensures) (s .pre .1)))
+    record {
+      usable = usable binary32-admitted e;
+      first = prepared-member e _ (read-number (s .args .x) (k .read-finite .ensures) (s .pre .0));
+      second = prepared-member e _ (read-number (s .args .strip) (c .read-finite2 .ensures) (s .pre .1));
+    }
 
 -- a number that is given is in the format
 write-answer-requires : tie.Need-write-answer-requires
 write-answer-requires c κs x h =
     let e = c .before .before .before .prepared-binary32 .ensures in
-    subst (λ (f : Format). member f x ≡ true) (prepared-format e) (rounded-member (known (usable binary32-admitted e) .admits) _ _ (sym (c .add .ensures) ∙ h))
+    subst (λ (f : Format). member f x ≡ true) (prepared-format e) (sum-member (known (usable binary32-admitted e) .admits) _ _ _ (sym (c .add .ensures) ∙ ap numberGiven h))
 
 returns : tie.Need-returns
 returns c =

@@ -1,10 +1,9 @@
 -- `boundaries::steps::add_strip` meets its contract.
-use borrow.Author.Needs.{needs}
-use Prim.Native.Nat.{ℕ}
-use mathlib.Core.Path.{_≡_, sym, ap, ap₂, _∙_}
-use mathlib.Core.Bool.{true}
+use Rattle.theory.proofs.Prelude.{ℕ, true, _∙_, ap, _≡_, sym, ap₂, needs}
 use Rattle.format.specs.Published.{binary32}
 use Rattle.number.specs.Numbers.{member}
+use Rattle.fast_two_sum.specs.declared.StepsAnswer.{StepsAnswer}
+use Rattle.fast_two_sum.specs.Answers.{stepsGiven}
 use Rattle.boundaries.specs.declared.StepAnswer.the-variants.{Added}
 use Rattle.boundaries.specs.Sums.{stepWritten, stripAdded}
 use Rattle.boundaries.proofs.StepLaws.{triple-members, read-number, sum-written}
@@ -21,7 +20,7 @@ module _ (j : tie.After-three-sum) where
   abbrev start : tie.Start
   start = j .before .before .before
 
-  answered : stepWritten (j .three-sum .result) ≡ stripAdded (start .args .direction) (start .args .x) (start .args .strip)
+  answered : stepWritten (stepsGiven (j .three-sum .result)) ≡ stripAdded (start .args .direction) (start .args .x) (start .args .strip)
   answered = sum-written _ _ _ (j .before .before .read-finite .ensures) (j .before .read-finite2 .ensures) (j .three-sum .ensures)
 
 -- x and y are in the format
@@ -30,7 +29,7 @@ members c =
     let j = c .before .before in
     let s = start j in
     triple-members (s .args .direction) _ _ (read-number (s .args .x) (j .before .before .read-finite .ensures) (s .pre .0))
-    (read-number (s .args .strip) (j .before .read-finite2 .ensures) (s .pre .1)) (sym (j .three-sum .ensures) ∙ c .t .given .1)
+    (read-number (s .args .strip) (j .before .read-finite2 .ensures) (s .pre .1)) (sym (j .three-sum .ensures) ∙ ap stepsGiven (c .t .given .1))
 
 pattern-of-requires : tie.Need-pattern-of-requires
 pattern-of-requires c κs = members (c .before .before .before) .0
@@ -39,24 +38,17 @@ pattern-of-requires-2 : tie.Need-pattern-of-requires-2
 pattern-of-requires-2 c κs = members (c .before .before .before .before) .1
 
 returns : tie.Need-returns
-returns c = sym (ap stepWritten (c .enum-told .given .1)) ∙ answered (c .before .before)
+returns c = sym (ap (λ (a : StepsAnswer). stepWritten (stepsGiven a)) (c .enum-told .given .1)) ∙ answered (c .before .before)
 
 returns-2 : tie.Need-returns-2
 returns-2 c =
     let t = c .before .before .before .before .before in
     ap₂ (λ (x y : ℕ). Added (record { x = x; y = y })) (c .before .pattern-of .ensures) (c .pattern-of2 .ensures)
-    ∙ sym (ap stepWritten (t .t .given .1)) ∙ answered (t .before .before)
+    ∙ sym (ap (λ (a : StepsAnswer). stepWritten (stepsGiven a)) (t .t .given .1)) ∙ answered (t .before .before)
 
 pub add-strip-spec : {M : Type 1} → statement M
 add-strip-spec =
     tie.close
     (tie.spec
-    (λ c κs. search needs)
-    (λ c κs. search needs)
-    three-sum-requires
-    (λ c. search needs)
-    (λ c. search needs)
-    pattern-of-requires
-    pattern-of-requires-2
-    returns
-    returns-2)
+    (λ c κs. search needs) (λ c κs. search needs) three-sum-requires (λ c. search needs) (λ c. search needs) pattern-of-requires pattern-of-requires-2
+    returns returns-2)

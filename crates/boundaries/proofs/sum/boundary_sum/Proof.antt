@@ -1,11 +1,5 @@
 -- `boundaries::sum::boundary_sum` meets its contract.
-use borrow.Author.Needs.{needs}
-use native.Mathlib.Omega.{arith}
-use mathlib.Core.Path.{_≡_, sym, ap, subst, _∙_}
-use mathlib.Core.Bool.{true}
-use mathlib.Core.List.{List}
-use Prim.Native.Nat.{ℕ, suc, _≤_, _<_}
-use lib.ListN.{length}
+use Rattle.theory.proofs.Prelude.{ℕ, _≤_, _<_, suc, true, List, _∙_, ap, _≡_, sym, subst, arith, length, needs}
 use Rattle.theory.specs.Lists.{firstWhere, none}
 use Rattle.theory.specs.declared.Direction.{Direction}
 use Rattle.theory.proofs.Tests.{denied, granted}
@@ -13,7 +7,7 @@ use Rattle.format.specs.Given.{gives, refusedAt}
 use Rattle.format.specs.Directions.{isDirection}
 use Rattle.binary32.specs.Patterns.{notFinite}
 use Rattle.boundaries.specs.Steps.{Summable}
-use Rattle.boundaries.specs.Sums.{boundarySteps, restsOf, summed, boundaryAnswer}
+use Rattle.boundaries.specs.Sums.{boundarySteps, restsOf, stripsSummed, boundaryAnswer}
 use Rattle.boundaries.proofs.Checks.{ends-with, no-strips, many-strips, second-differs, no-direction, not-finite, checked, none-made, too-large-is, sum-is}
 use Rattle.boundaries.proofs.sum.boundary_sum.Statement.{statement}
 use Rattle.boundaries.proofs.sum.boundary_sum.Tie as tie
@@ -103,7 +97,7 @@ module _ (c : tie.After-first-too-large) where
   abbrev entered : tie.Else3
   entered = lengths (finite-strips .before)
 
-  passed : summed (c .before .direction-of .result) (strips entered) ≡ boundaryAnswer (d entered) (strips entered) (rests entered)
+  passed : stripsSummed (c .before .direction-of .result) (strips entered) ≡ boundaryAnswer (d entered) (strips entered) (rests entered)
   passed =
       checked (d entered) (strips entered) (rests entered) (some entered) (few entered) (second entered) (directed (finite-strips .before)) (all-finite finite-strips)
       (c .before .direction-of .ensures)
@@ -139,17 +133,5 @@ pub boundary-sum-spec : {M : Type 1} → statement M
 boundary-sum-spec =
     tie.close
     (tie.spec
-    returns
-    returns-2
-    (λ c. search needs)
-    returns-3
-    (λ c κs. search needs)
-    returns-4
-    (λ c κs. search needs)
-    returns-5
-    direction-of-requires
-    first-too-large-requires
-    returns-6
-    write-rests-requires
-    (λ c. search needs)
-    returns-7)
+    returns returns-2 (λ c. search needs) returns-3 (λ c κs. search needs) returns-4 (λ c κs. search needs) returns-5 direction-of-requires
+    first-too-large-requires returns-6 write-rests-requires (λ c. search needs) returns-7)

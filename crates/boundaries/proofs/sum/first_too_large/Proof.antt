@@ -1,15 +1,11 @@
 -- `boundaries::sum::first_too_large` meets its contract: the strips that were added and the steps that are left, from x on, are as many
 -- as all.
-use borrow.Author.Needs.{needs}
-use native.Mathlib.Omega.{arith}
-use mathlib.Core.Path.{_≡_, sym, _∙_}
-use mathlib.Core.Bool.{true}
-use Prim.Native.Nat.{ℕ, suc, _+_, _≤_, _<_, _-_}
-use lib.ListN.{length, getD, drop}
+use Rattle.theory.proofs.Prelude.{ℕ, _≤_, _<_, _+_, _-_, suc, true, _∙_, ap, _≡_, sym, arith, length, getD, drop, needs}
 use Rattle.binary32.specs.Patterns.{finite}
 use Rattle.binary32.proofs.PatternValues.{all-finite}
 use Rattle.boundaries.specs.Sums.{stepsFrom, boundarySteps}
 use Rattle.boundaries.proofs.Growth.{small-added}
+use Rattle.binary32.specs.Patterns.{patternGiven}
 use Rattle.boundaries.proofs.StepLaws.{first-added, first-refused}
 use Rattle.boundaries.proofs.Passes.{count-begin, count-goes-on, count-stops, count-ends}
 use Rattle.boundaries.proofs.sum.first_too_large.Statement.{statement}
@@ -63,7 +59,7 @@ returns-2 c =
     let r = requirements k in
     sym
     (count-stops (s .args .direction) (x k) (i k) (s .args .strips .now) (inside k)
-    (first-refused (s .args .direction) (x k) (getD (s .args .strips .now) (i k) 0) (r .0) (r .1) (sym (j .add-first .ensures) ∙ c .enum-told .given .1)))
+    (first-refused (s .args .direction) (x k) (getD (s .args .strips .now) (i k) 0) (r .0) (r .1) (sym (j .add-first .ensures) ∙ ap patternGiven (c .enum-told .given .1))))
     ∙ k .before .before .loop .inv .2
 
 loop-again : tie.Need-loop-again Inv-loop μ-loop
@@ -72,7 +68,7 @@ loop-again c =
     let k = j .before in
     let s = start k in
     let r = requirements k in
-    let a = first-added (s .args .direction) (x k) (getD (s .args .strips .now) (i k) 0) (r .0) (r .1) (sym (j .add-first .ensures) ∙ c .before .next .given .1) in (
+    let a = first-added (s .args .direction) (x k) (getD (s .args .strips .now) (i k) 0) (r .0) (r .1) (sym (j .add-first .ensures) ∙ ap patternGiven (c .before .next .given .1)) in (
       omega arith,
       a .3,
       sym (count-goes-on (s .args .direction) (x k) (i k) (s .args .strips .now) (inside k) (a .1) (a .2)) ∙ k .before .before .loop .inv .2,
@@ -87,19 +83,5 @@ pub first-too-large-spec : {M : Type 1} → statement M
 first-too-large-spec =
     tie.close
     (tie.spec
-    Inv-loop
-    μ-loop
-    (λ c κs. search needs)
-    returns
-    shared-slice-read-x
-    loop-holds
-    (λ c. search needs)
-    (λ c. search needs)
-    add-first-requires
-    (λ c. search needs)
-    (λ c. search needs)
-    returns-2
-    (λ c. search needs)
-    (λ c. search needs)
-    loop-again
-    returns-3)
+    Inv-loop μ-loop (λ c κs. search needs) returns shared-slice-read-x loop-holds (λ c. search needs) (λ c. search needs) add-first-requires
+    (λ c. search needs) (λ c. search needs) returns-2 (λ c. search needs) (λ c. search needs) loop-again returns-3)

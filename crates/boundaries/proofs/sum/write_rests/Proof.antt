@@ -1,12 +1,6 @@
 -- `boundaries::sum::write_rests` meets its contract: what is written and the rests of the steps that are left are all rests, and
 -- the steps that are left lead to the last x.
-use borrow.Author.Needs.{needs}
-use native.Mathlib.Omega.{arith}
-use mathlib.Core.Path.{_≡_, sym, ap, _∙_}
-use mathlib.Core.Bool.{true}
-use mathlib.Core.List.{List}
-use Prim.Native.Nat.{ℕ, suc, _≤_, _<_, _-_, _+_}
-use lib.ListN.{length, getD, drop}
+use Rattle.theory.proofs.Prelude.{ℕ, _≤_, _<_, _+_, _-_, suc, true, List, _∙_, ap, _≡_, sym, arith, length, getD, drop, needs}
 use Rattle.binary32.specs.Patterns.{finite}
 use Rattle.binary32.proofs.PatternValues.{all-finite}
 use Rattle.boundaries.specs.Sums.{stepsFrom, boundarySteps, lastX, restsOf, firstOf}
@@ -110,22 +104,6 @@ pub write-rests-spec : {M : Type 1} → statement M
 write-rests-spec =
     tie.close
     (tie.spec
-    Inv-loop
-    μ-loop
-    shared-slice-read-x
-    loop-holds
-    (λ c. search needs)
-    (λ c. search needs)
-    (λ c. search needs)
-    add-strip-requires
-    (λ c. search needs)
-    (λ c. search needs)
-    (λ c. search needs)
-    returns
-    (λ c. search needs)
-    (λ c. search needs)
-    (λ c. search needs)
-    loop-less
-    loop-again
-    (λ c. search needs)
-    returns-2)
+    Inv-loop μ-loop shared-slice-read-x loop-holds (λ c. search needs) (λ c. search needs) (λ c. search needs) add-strip-requires (λ c. search needs)
+    (λ c. search needs) (λ c. search needs) returns (λ c. search needs) (λ c. search needs) (λ c. search needs) loop-less loop-again
+    (λ c. search needs) returns-2)

@@ -1,24 +1,30 @@
 -- `c_api::answers::slices_out` meets its contract.
-use borrow.Author.Needs.{needs}
-use mathlib.Core.Path.{sym, ap, _∙_}
-use Prim.Native.Nat.{ℕ}
+use Rattle.theory.proofs.Prelude.{ℕ, _∙_, ap, sym, needs}
+use Rattle.format.specs.Given.{refused, refusedAt}
+use Rattle.binary32_arithmetic.specs.declared.SliceAnswer.{SliceAnswer}
+use Rattle.binary32_arithmetic.specs.Slices.{slicesGiven}
 use Rattle.c_api.specs.Answers.{slicesOut}
-use Rattle.c_api.specs.declared.answers.SlicesAnswer.{SlicesAnswer}
+use Rattle.c_api.specs.declared.answers.SlicesOut.{SlicesOut}
 use Rattle.c_api.proofs.answers.slices_out.Statement.{statement}
 use Rattle.c_api.proofs.answers.slices_out.Tie as tie
 
-abbrev refused : (index n : ℕ) → SlicesAnswer
-refused index n = record { refusal = n; index = index }
+abbrev out : SliceAnswer → SlicesOut
+out answer = slicesOut (slicesGiven answer)
+
+abbrev at : (index n : ℕ) → SlicesOut
+at index n = slicesOut (refusedAt n index)
 
 returns : tie.Need-returns
-returns c = sym (ap slicesOut (c .enum-told .given .1))
+returns c = sym (ap out (c .enum-told .given .1))
 
 returns-2 : tie.Need-returns-2
-returns-2 c = ap (refused 0) (c .refusal-number .ensures) ∙ sym (ap slicesOut (c .before .before .answer .given .1))
+returns-2 c = ap (λ (n : ℕ). slicesOut (refused n)) (c .refusal-number .ensures) ∙ sym (ap out (c .before .before .answer .given .1))
 
 returns-3 : tie.Need-returns-3
-returns-3 c = ap (refused _) (c .refusal-number2 .ensures) ∙ sym (ap slicesOut (c .before .before .answer2 .given .1))
+returns-3 c = ap (at _) (c .refusal-number2 .ensures) ∙ sym (ap out (c .before .before .answer2 .given .1))
 
 pub slices-out-spec : {M : Type 1} → statement M
 slices-out-spec =
-    tie.close (tie.spec (λ c. search needs) (λ c. search needs) (λ c κs. search needs) (λ c. search needs) (λ c κs. search needs) returns returns-2 returns-3)
+    tie.close
+    (tie.spec
+    (λ c. search needs) (λ c. search needs) (λ c κs. search needs) (λ c. search needs) (λ c κs. search needs) returns returns-2 returns-3)

@@ -1,19 +1,17 @@
 -- `c_api::answers::stretch_out` meets its contract.
-use borrow.Author.Needs.{needs}
-use mathlib.Core.Path.{sym, ap, _∙_}
-use Prim.Native.Nat.{ℕ}
+use Rattle.theory.proofs.Prelude.{ℕ, _∙_, ap, sym, needs}
 use Rattle.format.specs.Given.{refused, refusedAt}
 use Rattle.receivers.specs.declared.Calmer.{Calmer}
 use Rattle.receivers.specs.Answers.{calmerGiven}
 use Rattle.c_api.specs.Answers.{stretchOut}
-use Rattle.c_api.specs.declared.answers.StretchAnswer.{StretchAnswer}
+use Rattle.c_api.specs.declared.answers.StretchOut.{StretchOut}
 use Rattle.c_api.proofs.answers.stretch_out.Statement.{statement}
 use Rattle.c_api.proofs.answers.stretch_out.Tie as tie
 
-abbrev out : Calmer → StretchAnswer
+abbrev out : Calmer → StretchOut
 out answer = stretchOut (calmerGiven answer)
 
-abbrev at : (index n : ℕ) → StretchAnswer
+abbrev at : (index n : ℕ) → StretchOut
 at index n = stretchOut (refusedAt n index)
 
 returns : tie.Need-returns
@@ -32,13 +30,5 @@ pub stretch-out-spec : {M : Type 1} → statement M
 stretch-out-spec =
     tie.close
     (tie.spec
-    (λ c. search needs)
-    (λ c. search needs)
-    (λ c. search needs)
-    (λ c κs. search needs)
-    (λ c. search needs)
-    (λ c κs. search needs)
-    returns
-    returns-2
-    returns-3
-    returns-4)
+    (λ c. search needs) (λ c. search needs) (λ c. search needs) (λ c κs. search needs) (λ c. search needs) (λ c κs. search needs)
+    returns returns-2 returns-3 returns-4)

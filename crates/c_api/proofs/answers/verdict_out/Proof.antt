@@ -1,13 +1,23 @@
 -- `c_api::answers::verdict_out` meets its contract.
-use borrow.Author.Needs.{needs}
-use mathlib.Core.Path.{sym, ap, _∙_}
-use Rattle.c_api.specs.Answers.{verdictOut}
+use Rattle.theory.proofs.Prelude.{ℕ, _∙_, ap, sym, needs}
+use Rattle.format.specs.Given.{refused}
+use Rattle.format.specs.declared.Verdict.{Verdict}
+use Rattle.format.specs.Given.{verdictGiven}
+use Rattle.c_api.specs.Answers.{refusalOut}
 use Rattle.c_api.proofs.answers.verdict_out.Statement.{statement}
 use Rattle.c_api.proofs.answers.verdict_out.Tie as tie
 
+abbrev out : Verdict → ℕ
+out answer = refusalOut (verdictGiven answer)
+
+returns : tie.Need-returns
+returns c = sym (ap out (c .enum-told .given .1))
+
 returns-2 : tie.Need-returns-2
-returns-2 c = c .refusal-number .ensures ∙ sym (ap verdictOut (c .before .before .verdict .given .1))
+returns-2 c = c .refusal-number .ensures ∙ sym (ap out (c .before .before .verdict .given .1))
 
 pub verdict-out-spec : {M : Type 1} → statement M
 verdict-out-spec =
-    tie.close (tie.spec (λ c. search needs) (λ c. search needs) (λ c κs. search needs) (λ c. search needs) returns-2)
+    tie.close
+    (tie.spec
+    (λ c. search needs) (λ c. search needs) (λ c κs. search needs) returns returns-2)

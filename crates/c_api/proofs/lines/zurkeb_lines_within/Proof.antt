@@ -1,10 +1,8 @@
 -- `c_api::lines::zurkeb_lines_within` meets its contract.
-use Prim.Native.Nat.{ℕ}
-use mathlib.Core.Path.{ap, _∙_}
-use borrow.Author.Needs.{needs}
+use Rattle.theory.proofs.Prelude.{ℕ, _∙_, ap, needs}
 use Rattle.format.specs.Given.{Given}
 use Rattle.saved_lines.specs.Lines.{linesInOrder, withinWritten}
-use Rattle.c_api.specs.Answers.{reachOut}
+use Rattle.c_api.specs.Answers.{countOut}
 use Rattle.c_api.proofs.lines.zurkeb_lines_within.Statement.{statement}
 use Rattle.c_api.proofs.lines.zurkeb_lines_within.Tie as tie
 
@@ -12,7 +10,7 @@ returns : tie.Need-returns
 returns c =
     let j = c .before .before .before in
     let s = j .before .before .before .before .args in (
-      c .reach-out .ensures ∙ ap reachOut (j .lines-within .ensures .0),
+      c .line-out .ensures ∙ ap countOut (j .lines-within .ensures .0),
       j .lines-within .ensures .1 ∙ ap (λ (x : Given ℕ). withinWritten x (linesInOrder (s .offsets .now) (s .query) (s .distance)) (s .out .now)) (j .lines-within .ensures .0),
     )
 

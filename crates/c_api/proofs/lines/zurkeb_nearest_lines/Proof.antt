@@ -1,10 +1,8 @@
 -- `c_api::lines::zurkeb_nearest_lines` meets its contract.
-use Prim.Native.Nat.{ℕ}
-use mathlib.Core.Path.{ap, _∙_}
-use borrow.Author.Needs.{needs}
+use Rattle.theory.proofs.Prelude.{ℕ, _∙_, ap, needs}
 use Rattle.format.specs.Given.{Given}
 use Rattle.saved_lines.specs.Rows.{rowWritten}
-use Rattle.c_api.specs.Answers.{rowOut}
+use Rattle.c_api.specs.Answers.{countOut}
 use Rattle.c_api.proofs.lines.zurkeb_nearest_lines.Statement.{statement}
 use Rattle.c_api.proofs.lines.zurkeb_nearest_lines.Tie as tie
 
@@ -12,7 +10,7 @@ returns : tie.Need-returns
 returns c =
     let j = c .before .before .before in
     let s = j .before .before .before .before .before .args in (
-      c .row-out .ensures ∙ ap rowOut (j .nearest-lines .ensures .0),
+      c .line-out .ensures ∙ ap countOut (j .nearest-lines .ensures .0),
       j .nearest-lines .ensures .1 ∙ ap (λ (x : Given ℕ). rowWritten x (s .offsets .now) (s .queries .now) (s .out .now)) (j .nearest-lines .ensures .0),
     )
 

@@ -1,6 +1,5 @@
 -- `c_api::logs::zurkeb_calmer_stretch` meets its contract.
-use borrow.Author.Needs.{needs}
-use mathlib.Core.Path.{ap, _∙_}
+use Rattle.theory.proofs.Prelude.{_∙_, ap, needs}
 use Rattle.c_api.specs.Answers.{stretchOut}
 use Rattle.c_api.proofs.logs.zurkeb_calmer_stretch.Statement.{statement}
 use Rattle.c_api.proofs.logs.zurkeb_calmer_stretch.Tie as tie

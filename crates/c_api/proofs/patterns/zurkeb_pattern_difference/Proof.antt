@@ -1,6 +1,5 @@
 -- `c_api::patterns::zurkeb_pattern_difference` meets its contract.
-use borrow.Author.Needs.{needs}
-use mathlib.Core.Path.{ap, _∙_}
+use Rattle.theory.proofs.Prelude.{_∙_, ap, needs}
 use Rattle.c_api.specs.Answers.{patternOut}
 use Rattle.c_api.proofs.patterns.zurkeb_pattern_difference.Statement.{statement}
 use Rattle.c_api.proofs.patterns.zurkeb_pattern_difference.Tie as tie

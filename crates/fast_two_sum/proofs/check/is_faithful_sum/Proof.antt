@@ -1,23 +1,22 @@
 -- `fast_two_sum::check::is_faithful_sum` meets its contract.
-use borrow.Author.Needs.{needs}
-use mathlib.Core.Path.{sym, _∙_}
+use Rattle.theory.proofs.Prelude.{_∙_, sym, needs}
 use Rattle.format.proofs.Formats.{Admitted}
 use Rattle.number.proofs.Membership.{Member, members, known}
-use Rattle.fast_two_sum.proofs.Results.{rounded-member}
+use Rattle.arithmetic.proofs.Results.{sum-member}
 use Rattle.fast_two_sum.proofs.Faithfulness.{down-decides, up-decides}
 use Rattle.fast_two_sum.proofs.check.is_faithful_sum.Statement.{statement}
 use Rattle.fast_two_sum.proofs.check.is_faithful_sum.Tie as tie
 
 admits : (c : tie.Start) → Admitted (c .args .prepared .format)
-admits c = known (c .pre .0) .admits
+admits c = known (c .pre .0 .usable) .admits
 
 inner : (c : tie.Start) → Member (c .args .prepared .format) (c .args .x)
-inner c = members _ (admits c) (c .pre .3)
+inner c = members _ (admits c) (c .pre .1 .number)
 
 is-result-requires : tie.Need-is-result-requires
 is-result-requires c κs =
     let s = c .before in
-    (s .pre .0 .format, s .pre .3, λ r h. rounded-member (admits s) _ _ (sym (c .add .ensures) ∙ h))
+    (s .pre .0 .usable .format, s .pre .1 .number, λ r h. sum-member (admits s) _ _ _ (sym (c .add .ensures) ∙ h))
 
 returns : tie.Need-returns
 returns c =
@@ -28,7 +27,7 @@ returns c =
 is-result-requires-2 : tie.Need-is-result-requires-2
 is-result-requires-2 c κs =
     let s = c .before .before .before .before in
-    (s .pre .0 .format, s .pre .3, λ r h. rounded-member (admits s) _ _ (sym (c .add2 .ensures) ∙ h))
+    (s .pre .0 .usable .format, s .pre .1 .number, λ r h. sum-member (admits s) _ _ _ (sym (c .add2 .ensures) ∙ h))
 
 returns-2 : tie.Need-returns-2
 returns-2 c =

@@ -1,6 +1,5 @@
 -- `fast_two_sum::check::is_triple` meets its contract.
-use borrow.Author.Needs.{needs}
-use mathlib.Core.Path.{sym, _∙_}
+use Rattle.theory.proofs.Prelude.{_∙_, sym, needs}
 use Rattle.theory.specs.Tests.{_and_}
 use Rattle.theory.proofs.Tests.{never, denied, granted, and-left, and-right, refuted}
 use Rattle.fast_two_sum.specs.Checks.{isTriple}
@@ -12,14 +11,14 @@ unfolding isTriple
 returns c = refuted (λ h. never (sym (and-left _ _ h) ∙ denied (c .before .is-faithful-sum .ensures) (c .if1 .taken)))
 
 is-faithful-difference-requires : tie.Need-is-faithful-difference-requires
-is-faithful-difference-requires c κs = let p = c .before .before .pre in (p .0, p .3, p .1, p .4)
+is-faithful-difference-requires c κs = let p = c .before .before .pre in search needs
 
 returns-2 : tie.Need-returns-2
 unfolding isTriple
 returns-2 c = refuted (λ h. never (sym (and-left _ _ (and-right _ _ h)) ∙ denied (c .before .is-faithful-difference .ensures) (c .if2 .taken)))
 
 is-faithful-difference-requires-2 : tie.Need-is-faithful-difference-requires-2
-is-faithful-difference-requires-2 c κs = let p = c .before .before .before .before .pre in (p .0, p .2, p .4, p .5)
+is-faithful-difference-requires-2 c κs = let p = c .before .before .before .before .pre in search needs
 
 returns-3 : tie.Need-returns-3
 unfolding isTriple _and_
@@ -34,9 +33,4 @@ pub is-triple-spec : {M : Type 1} → statement M
 is-triple-spec =
     tie.close
     (tie.spec
-    (λ c κs. search needs)
-    returns
-    is-faithful-difference-requires
-    returns-2
-    is-faithful-difference-requires-2
-    returns-3)
+    (λ c κs. search needs) returns is-faithful-difference-requires returns-2 is-faithful-difference-requires-2 returns-3)

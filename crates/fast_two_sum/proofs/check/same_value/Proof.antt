@@ -1,11 +1,9 @@
 -- `fast_two_sum::check::same_value` meets its contract.
-use borrow.Author.Needs.{needs}
-use mathlib.Core.Path.{sym, ap, _∙_}
-use native.Mathlib.Omega.{arith}
+use Rattle.theory.proofs.Prelude.{_∙_, ap, sym, arith, needs}
 use Rattle.theory.proofs.Tests.{refuted}
 use Rattle.theory.proofs.Integers.{above, below, lt-parts}
 use Rattle.number.proofs.Membership.{equal-true, equal-made}
-use Rattle.number.proofs.Comparison.{less-says, equal-says, greater-says, never-refused}
+use Rattle.number.proofs.Comparison.{less-says, equal-says, greater-says}
 use Rattle.fast_two_sum.proofs.check.same_value.Statement.{statement}
 use Rattle.fast_two_sum.proofs.check.same_value.Tie as tie
 
@@ -26,12 +24,7 @@ returns-3 c =
     let l = greater-says (sym (k .compare-values .ensures) ∙ c .enum-told3 .given .1) in
     refuted (λ h. omega (arith, lt-parts l, ap above (equal-true _ _ h), ap below (equal-true _ _ h)))
 
-returns-4 : tie.Need-returns-4
-returns-4 c =
-    let k = c .before .before in
-    absurd (never-refused _ _ _ (sym (k .compare-values .ensures) ∙ c .enum-told4 .given .1))
-
 pub same-value-spec : {M : Type 1} → statement M
 same-value-spec =
     tie.close
-    (tie.spec (λ c κs. search needs) (λ c. search needs) (λ c. search needs) (λ c. search needs) (λ c. search needs) returns returns-2 returns-3 returns-4)
+    (tie.spec (λ c κs. search needs) (λ c. search needs) (λ c. search needs) (λ c. search needs) returns returns-2 returns-3)

@@ -1,6 +1,5 @@
 -- `format::admission::check_format` meets its contract.
-use borrow.Author.Needs.{needs}
-use mathlib.Core.Path.{sym, _∙_}
+use Rattle.theory.proofs.Prelude.{_∙_, sym, needs}
 use Rattle.theory.proofs.Tests.{unless-passed, unless-failed}
 use Rattle.format.specs.Formats.{formatChecked}
 use Rattle.format.proofs.admission.check_format.Statement.{statement}

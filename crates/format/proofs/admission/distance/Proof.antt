@@ -1,9 +1,5 @@
 -- `format::admission::distance` meets its contract: the difference is from 0 to 2400.
-use native.Mathlib.Omega.{arith}
-use lib.IntN.{_-ℤ_}
-use mir.Syntax.{w32}
-use mir.Val.{SFits}
-use mir.Facts.{fits-natAbs}
+use Rattle.theory.proofs.Prelude.{arith, _-ℤ_, fits-natAbs, w32, SFits}
 use Rattle.format.proofs.Signed.{fits, not-negative, back}
 use Rattle.format.proofs.Formats.{Distance, exponents, distances}
 use Rattle.format.proofs.admission.distance.Statement.{statement}

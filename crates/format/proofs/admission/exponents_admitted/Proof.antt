@@ -1,10 +1,5 @@
 -- `format::admission::exponents_admitted` meets its contract.
-use native.Mathlib.Omega.{arith}
-use mathlib.Core.Path.{_∙_}
-use mathlib.Core.Path.{_≡_}
-use lib.IntN.{ℤ, pos, negsuc}
-use lib.Signed.{leZ}
-use mir.Facts.{sfits-lit}
+use Rattle.theory.proofs.Prelude.{_∙_, _≡_, arith, ℤ, pos, negsuc, leZ, sfits-lit}
 use Rattle.theory.specs.Tests.{_and_}
 use Rattle.theory.proofs.Tests.{refuted}
 use Rattle.format.specs.Formats.{exponentsAdmitted}

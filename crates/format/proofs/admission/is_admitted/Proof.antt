@@ -1,19 +1,11 @@
 -- `format::admission::is_admitted` meets its contract: a test that fails refutes what an admitted format has, and the last one decides.
-use borrow.Author.Needs.{needs}
-use native.Mathlib.Omega.{arith}
-use Prim.Native.Nat.{_^_, _≤_}
-use mathlib.Core.Path.{_≡_, _∙_, sym}
-use mathlib.Core.Bool.{true}
-use lib.Dec.{leb}
-use borrow.Author.Tests.{le-leb}
+use Rattle.theory.proofs.Prelude.{_≤_, _^_, true, _∙_, _≡_, sym, arith, leb, w32, SFits, needs, le-leb}
 use Rattle.theory.specs.Tests.{_and_}
 use Rattle.theory.proofs.Tests.{never, refuted, denied, granted}
 use Rattle.format.specs.declared.Format.{Format}
 use Rattle.format.specs.Formats.{greatestPower, exponentsAdmitted, admitted}
 use Rattle.format.proofs.Signed.{back}
 use Rattle.format.proofs.Formats.{admits}
-use mir.Syntax.{w32}
-use mir.Val.{SFits}
 use Rattle.format.proofs.admission.is_admitted.Statement.{statement}
 use Rattle.format.proofs.admission.is_admitted.Tie as tie
 
@@ -60,11 +52,4 @@ pub is-admitted-spec : {M : Type 1} → statement M
 is-admitted-spec =
     tie.close
     (tie.spec
-    returns
-    returns-2
-    returns-3
-    returns-4
-    (λ c κs. search needs)
-    returns-5
-    (λ c κs. search needs)
-    returns-6)
+    returns returns-2 returns-3 returns-4 (λ c κs. search needs) returns-5 (λ c κs. search needs) returns-6)

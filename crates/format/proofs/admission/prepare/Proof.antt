@@ -1,11 +1,5 @@
 -- `format::admission::prepare` meets its contract.
-use borrow.Author.Needs.{needs}
-use native.Mathlib.Omega.{arith}
-use native.Mathlib.Nat.{le-trans}
-use Prim.Native.Nat.{ℕ, _*_, _-_, _^_}
-use mathlib.Core.Path.{_≡_, sym, ap, _∙_}
-use mir.Syntax.{w32}
-use mir.Val.{SFits}
+use Rattle.theory.proofs.Prelude.{ℕ, _^_, _*_, _-_, _∙_, ap, _≡_, sym, le-trans, arith, w32, SFits, needs}
 use Rattle.theory.proofs.Tests.{granted, denied, unless-passed, unless-failed}
 use Rattle.format.specs.declared.Format.{Format}
 use Rattle.format.specs.declared.Preparation.the-variants.{Ready}

@@ -1,7 +1,5 @@
 -- `format::directions::direction_of` meets its contract.
-use Prim.Native.Nat.{ℕ, zero, suc, _≤_}
-use mathlib.Core.Path.{_≡_, refl, sym, ap}
-use native.Mathlib.Omega.{arith}
+use Rattle.theory.proofs.Prelude.{ℕ, _≤_, suc, zero, ap, _≡_, sym, refl, arith}
 use Rattle.theory.specs.declared.Direction.the-variants.{Downward}
 use Rattle.format.specs.Directions.{direction}
 use Rattle.format.proofs.directions.direction_of.Statement.{statement}

@@ -2,7 +2,7 @@
 use Rattle.format.specs.Directions.{isDirection}
 use Rattle.format.proofs.directions.is_direction.Statement.{statement}
 use Rattle.format.proofs.directions.is_direction.Tie as tie
-use mathlib.Core.Path.{refl}
+use Rattle.theory.proofs.Prelude.{refl}
 
 returns : tie.Need-returns
 unfolding isDirection

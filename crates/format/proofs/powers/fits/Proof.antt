@@ -1,9 +1,5 @@
 -- The limit decides.
-use borrow.Author.Needs.{needs}
-use native.Mathlib.Omega.{arith}
-use mathlib.Core.Path.{ap, _∙_}
-use Prim.Native.Nat.{ℕ}
-use lib.Dec.{leb}
+use Rattle.theory.proofs.Prelude.{ℕ, _∙_, ap, arith, leb, needs}
 use Rattle.format.proofs.Limits.{limit-test}
 use Rattle.format.proofs.powers.fits.Statement.{statement}
 use Rattle.format.proofs.powers.fits.Tie as tie

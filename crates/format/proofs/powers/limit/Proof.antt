@@ -1,7 +1,5 @@
 -- Each arm has the limit of its exponents.
-use native.Mathlib.Omega.{arith}
-use mathlib.Core.Path.{_≡_, refl, sym, ap}
-use Prim.Native.Nat.{ℕ, _+_, _≤_}
+use Rattle.theory.proofs.Prelude.{ℕ, _≤_, _+_, ap, _≡_, sym, refl, arith}
 use Rattle.theory.specs.Tests.{_and_}
 use Rattle.format.specs.Limits.{limit}
 use Rattle.format.proofs.Limits.{below, limit-from}
@@ -63,16 +61,4 @@ pub limit-spec : {M : Type 1} → statement M
 limit-spec =
     tie.close
     (tie.spec
-    returns
-    returns-2
-    returns-3
-    returns-4
-    returns-5
-    returns-6
-    returns-7
-    returns-8
-    returns-9
-    returns-10
-    returns-11
-    returns-12
-    returns-13)
+    returns returns-2 returns-3 returns-4 returns-5 returns-6 returns-7 returns-8 returns-9 returns-10 returns-11 returns-12 returns-13)

@@ -1,8 +1,5 @@
 -- A shift in base 2, else squaring.
-use borrow.Author.Needs.{needs}
-use native.Mathlib.Omega.{arith}
-use mathlib.Core.Path.{_≡_, sym, ap, _∙_}
-use Prim.Native.Nat.{ℕ, _^_, _<_}
+use Rattle.theory.proofs.Prelude.{ℕ, _<_, _^_, _∙_, ap, sym, needs}
 use Rattle.format.proofs.Limits.{exponent-most}
 use Rattle.format.proofs.Squaring.{one-shl}
 use Rattle.format.proofs.powers.power.Statement.{statement}

@@ -1,10 +1,5 @@
 -- What is collected times what is left is the power, and no square that is used is above it.
-use borrow.Author.Needs.{needs}
-use native.Mathlib.Omega.{arith}
-use mathlib.Core.Path.{_≡_, sym, subst, ap, _∙_}
-use mathlib.Core.Logic.{⊎-elim}
-use native.Mathlib.Nat.{mul-le-mul-left, mul-le-mul-right}
-use Prim.Native.Nat.{ℕ, _*_, _/_, _^_, _≤_}
+use Rattle.theory.proofs.Prelude.{ℕ, _^_, _*_, _/_, ⊎-elim, ap, _≡_, sym, subst, mul-le-mul-left, arith}
 use Rattle.format.proofs.Squaring.{Way, way-odd, way-even, way-square, way-end, way-first, square-fits}
 use Rattle.format.proofs.powers.repeated.Statement.{statement}
 use Rattle.format.proofs.powers.repeated.Tie as tie

@@ -1,5 +1,5 @@
 -- `format::published::published` meets its contract.
-use borrow.Author.Needs.{needs}
+use Rattle.theory.proofs.Prelude.{needs}
 use Rattle.format.proofs.PublishedFormats.{published-below, published-above, published-entry}
 use Rattle.format.proofs.published.published.Statement.{statement}
 use Rattle.format.proofs.published.published.Tie as tie

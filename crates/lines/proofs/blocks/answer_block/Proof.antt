@@ -1,13 +1,5 @@
 -- `lines::blocks::answer_block` meets its contract: what is left of the block, answered from where the loop stands, completes what the whole block gives.
-use borrow.Author.Needs.{needs}
-use Prim.Native.Nat.{ℕ, _+_, _*_, _-_, _≤_, _<_}
-use mathlib.Core.Path.{_≡_, refl, sym, ap, _∙_}
-use mathlib.Core.List.{List, [], _∷_, _++_}
-use native.Mathlib.Numerals.{add-one}
-use native.Mathlib.Omega.{arith}
-use lib.ListN.{length, drop, getD}
-use lib.Seq.{drop-cons, drop-length}
-use borrow.Author.Tests.{eq-eqb, ne-eqb}
+use Rattle.theory.proofs.Prelude.{ℕ, _≤_, _<_, _+_, _*_, _-_, [], _∷_, List, _++_, _∙_, ap, _≡_, sym, refl, add-one, arith, length, getD, drop, drop-cons, drop-length, needs, ne-eqb, eq-eqb}
 use Rattle.lines.specs.declared.reading.Line.{Line}
 use Rattle.lines.specs.Reading.{fresh, pushed}
 use Rattle.lines.specs.Printing.{Put, textOf, lineFeed}
@@ -114,17 +106,5 @@ pub answer-block-spec : {M : Type 1} → statement M
 answer-block-spec =
     tie.close
     (tie.spec
-    Inv-loop
-    μ-loop
-    loop-holds
-    (λ c. search needs)
-    (λ c. search needs)
-    put-line-requires
-    (λ c κs. search needs)
-    (λ c. search needs)
-    loop-again
-    (λ c κs. search needs)
-    (λ c. search needs)
-    loop-again-2
-    (λ c. c .before .loop .inv .same)
-    returns)
+    Inv-loop μ-loop loop-holds (λ c. search needs) (λ c. search needs) put-line-requires (λ c κs. search needs) (λ c. search needs) loop-again
+    (λ c κs. search needs) (λ c. search needs) loop-again-2 (λ c. c .before .loop .inv .same) returns)

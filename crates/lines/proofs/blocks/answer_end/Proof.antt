@@ -1,10 +1,5 @@
 -- `lines::blocks::answer_end` meets its contract.
-use borrow.Author.Needs.{needs}
-use mathlib.Core.Path.{refl, sym, ap}
-use mathlib.Core.Bool.{Bool, cond}
-use mathlib.Core.List.{[], _++_}
-use native.Mathlib.Omega.{arith}
-use borrow.Author.Tests.{eq-eqb, ne-eqb}
+use Rattle.theory.proofs.Prelude.{Bool, cond, [], _++_, ap, sym, refl, arith, needs, ne-eqb, eq-eqb}
 use Rattle.lines.specs.Printing.{textOf, lineFeed}
 use Rattle.lines.specs.Blocks.{endText}
 use Rattle.lines.proofs.Stores.{put-as}

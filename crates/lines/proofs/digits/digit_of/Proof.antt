@@ -1,5 +1,5 @@
 -- `lines::digits::digit_of` meets its contract.
-use borrow.Author.Needs.{needs}
+use Rattle.theory.proofs.Prelude.{needs}
 use Rattle.lines.proofs.DigitLaws.{no-value, another, its-letter}
 use Rattle.lines.proofs.digits.digit_of.Statement.{statement}
 use Rattle.lines.proofs.digits.digit_of.Tie as tie
@@ -21,11 +21,4 @@ pub digit-of-spec : {M : Type 1} → statement M
 digit-of-spec =
     tie.close
     (tie.spec
-    (λ c. search needs)
-    (λ c. search needs)
-    returns
-    (λ c κs. search needs)
-    (λ c. search needs)
-    (λ c κs. search needs)
-    returns-2
-    returns-3)
+    (λ c. search needs) (λ c. search needs) returns (λ c κs. search needs) (λ c. search needs) (λ c κs. search needs) returns-2 returns-3)

@@ -1,5 +1,5 @@
 -- `lines::digits::letter` meets its contract.
-use borrow.Author.Needs.{needs}
+use Rattle.theory.proofs.Prelude.{needs}
 use Rattle.lines.proofs.DigitLaws.{letter-is}
 use Rattle.lines.proofs.digits.letter.Statement.{statement}
 use Rattle.lines.proofs.digits.letter.Tie as tie

@@ -1,6 +1,5 @@
 -- `lines::digits::lower_case` meets its contract.
-use borrow.Author.Needs.{needs}
-use borrow.Author.Tests.{eq-eqb, ne-eqb}
+use Rattle.theory.proofs.Prelude.{needs, ne-eqb, eq-eqb}
 use Rattle.lines.proofs.digits.lower_case.Statement.{statement}
 use Rattle.lines.proofs.digits.lower_case.Tie as tie
 

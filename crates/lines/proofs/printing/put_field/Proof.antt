@@ -1,11 +1,8 @@
 -- `lines::printing::put_field` meets its contract.
-use borrow.Author.Needs.{needs}
-use Prim.Native.Nat.{ℕ, _/_}
-use mathlib.Core.Path.{_≡_, sym, ap, _∙_}
-use mathlib.Core.List.{[], _∷_, _++_}
+use Rattle.theory.proofs.Prelude.{ℕ, _/_, [], _∷_, _++_, _∙_, ap, _≡_, sym, arith, needs}
 use native.Mathlib.Nat.{div-one}
-use native.Mathlib.Omega.{arith}
-use Rattle.binary32.specs.declared.Pattern.{Pattern}
+use Rattle.binary32.specs.declared.PatternAnswer.{PatternAnswer}
+use Rattle.binary32.specs.Patterns.{patternGiven}
 use Rattle.lines.specs.Digits.{lowDigits}
 use Rattle.lines.specs.Printing.{fieldText}
 use Rattle.lines.proofs.DigitLaws.{letter, letter-is}
@@ -23,41 +20,19 @@ returns c =
     let p = c .before .before in
     let f = p .before .before .before .before in
     let s = f .before .before .before in
-    put-as (shown (f .field .given .0 .0) (s .args .end) ∙ ap (λ (q : Pattern). fieldText q ++ s .args .end ∷ []) (sym (f .field .given .1))) (p .put-text .ensures)
+    put-as (shown (f .field .given .0 .0) (s .args .end) ∙ ap (λ (q : PatternAnswer). fieldText (patternGiven q) ++ s .args .end ∷ []) (sym (f .field .given .1))) (p .put-text .ensures)
 
 returns-2 : tie.Need-returns-2
 returns-2 c =
     let p = c .before .before in
     let k = p .before .before .before in
-    put-as (ap (λ (q : Pattern). fieldText q ++ k .before .before .before .args .end ∷ []) (sym (k .enum-told .given .1))) (put-upto (omega arith) (p .put-text2 .ensures))
+    put-as (ap (λ (q : PatternAnswer). fieldText (patternGiven q) ++ k .before .before .before .args .end ∷ []) (sym (k .enum-told .given .1))) (put-upto (omega arith) (p .put-text2 .ensures))
 
 pub put-field-spec : {M : Type 1} → statement M
 put-field-spec =
     tie.close
     (tie.spec
-    (λ c. search needs)
-    (λ c. search needs)
-    (λ c. search needs)
-    (λ c. search needs)
-    (λ c. search needs)
-    (λ c. search needs)
-    (λ c. search needs)
-    (λ c. search needs)
-    (λ c. search needs)
-    (λ c. search needs)
-    (λ c. search needs)
-    (λ c. search needs)
-    (λ c. search needs)
-    (λ c. search needs)
-    (λ c. search needs)
-    (λ c. search needs)
-    (λ c. search needs)
-    (λ c. search needs)
-    (λ c κs. search needs)
-    (λ c. search needs)
-    (λ c. search needs)
-    (λ c κs. search needs)
-    (λ c. search needs)
-    returns
-    (λ c. search needs)
-    returns-2)
+    (λ c. search needs) (λ c. search needs) (λ c. search needs) (λ c. search needs) (λ c. search needs) (λ c. search needs) (λ c. search needs)
+    (λ c. search needs) (λ c. search needs) (λ c. search needs) (λ c. search needs) (λ c. search needs) (λ c. search needs) (λ c. search needs)
+    (λ c. search needs) (λ c. search needs) (λ c. search needs) (λ c. search needs) (λ c κs. search needs) (λ c. search needs) (λ c. search needs)
+    (λ c κs. search needs) (λ c. search needs) returns (λ c. search needs) returns-2)

@@ -1,10 +1,5 @@
 -- `lines::printing::put_line` meets its contract.
-use borrow.Author.Needs.{needs}
-use mathlib.Core.Path.{sym, ap}
-use mathlib.Core.Bool.{Bool, cond}
-use mathlib.Core.List.{_++_}
-use native.Mathlib.Omega.{arith}
-use borrow.Author.Tests.{eq-eqb, ne-eqb}
+use Rattle.theory.proofs.Prelude.{Bool, cond, _++_, ap, sym, arith, needs, ne-eqb, eq-eqb}
 use Rattle.lines.specs.Printing.{patternText, badLine, textOf, lineFeed}
 use Rattle.lines.proofs.Stores.{put-as, put-upto}
 use Rattle.lines.proofs.printing.put_line.Statement.{statement}
@@ -29,10 +24,4 @@ pub put-line-spec : {M : Type 1} → statement M
 put-line-spec =
     tie.close
     (tie.spec
-    (λ c κs. search needs)
-    (λ c. search needs)
-    returns
-    (λ c. search needs)
-    (λ c κs. search needs)
-    (λ c. search needs)
-    returns-2)
+    (λ c κs. search needs) (λ c. search needs) returns (λ c. search needs) (λ c κs. search needs) (λ c. search needs) returns-2)

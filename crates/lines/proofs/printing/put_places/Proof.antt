@@ -1,15 +1,12 @@
 -- `lines::printing::put_places` meets its contract.
-use borrow.Author.Needs.{needs}
-use mathlib.Core.Path.{_≡_}
-use mathlib.Core.List.{[], _∷_, _++_, append-assoc}
-use native.Mathlib.Omega.{arith}
-use Rattle.binary32.specs.declared.places.Places.{Places}
+use Rattle.theory.proofs.Prelude.{[], _∷_, _++_, append-assoc, _≡_, arith, needs}
+use Rattle.binary32.specs.Places.{PlacesGiven, placesGiven}
 use Rattle.lines.specs.Printing.{fieldText, fields, spaced, lineFeed}
 use Rattle.lines.proofs.Stores.{put-after, put-as, put-length}
 use Rattle.lines.proofs.printing.put_places.Statement.{statement}
 use Rattle.lines.proofs.printing.put_places.Tie as tie
 
-joined : (q : Places)
+joined : (q : PlacesGiven)
     → (fieldText (q .ufp) ++ 32 ∷ []) ++ ((fieldText (q .ulp) ++ 32 ∷ []) ++ ((fieldText (q .predecessor) ++ 32 ∷ []) ++ (fieldText (q .successor) ++ lineFeed)))
     ≡ spaced (fields q) ++ lineFeed
 joined q = simp append-assoc
@@ -38,15 +35,10 @@ returns c =
     let p3 = p4 .before .before .before .before in
     let p2 = p3 .before .before .before .before in
     let p1 = p2 .before .before .before .before in
-    put-as (joined (p1 .before .before .before .args .places)) (put-after (p1 .put-field .ensures) (put-after (p2 .put-field2 .ensures) (put-after (p3 .put-field3 .ensures) (p4 .put-field4 .ensures))))
+    put-as (joined (placesGiven (p1 .before .before .before .args .places))) (put-after (p1 .put-field .ensures) (put-after (p2 .put-field2 .ensures) (put-after (p3 .put-field3 .ensures) (p4 .put-field4 .ensures))))
 
 pub put-places-spec : {M : Type 1} → statement M
 put-places-spec =
     tie.close
     (tie.spec
-    (λ c κs. search needs)
-    put-field-requires-2
-    put-field-requires-3
-    put-field-requires-4
-    (λ c. search needs)
-    returns)
+    (λ c κs. search needs) put-field-requires-2 put-field-requires-3 put-field-requires-4 (λ c. search needs) returns)

@@ -1,13 +1,7 @@
 -- `lines::printing::put_text` meets its contract: what is left of the text, stored in what the slice has become, gives what the whole text gives.
-use borrow.Author.Needs.{needs}
-use Prim.Native.Nat.{ℕ, suc, _+_, _-_, _≤_, _<_}
-use mathlib.Core.Path.{_≡_, refl, sym, ap, ap₂, _∙_}
-use mathlib.Core.List.{List, []}
-use native.Mathlib.Nat.{add-zero}
-use native.Mathlib.Numerals.{add-one}
-use native.Mathlib.Omega.{arith}
-use lib.ListN.{length, drop, getD, set, length-set}
-use lib.Seq.{sets, drop-cons, drop-length}
+use Rattle.theory.proofs.Prelude.{ℕ, _≤_, _<_, _+_, _-_, suc, [], List, _∙_, ap, _≡_, sym, refl, ap₂, add-zero, add-one, arith, length, getD, drop, set, drop-cons, drop-length, needs}
+use lib.ListN.{length-set}
+use lib.Seq.{sets}
 use Rattle.lines.proofs.printing.put_text.Statement.{statement}
 use Rattle.lines.proofs.printing.put_text.Tie as tie
 
@@ -50,15 +44,5 @@ pub put-text-spec : {M : Type 1} → statement M
 put-text-spec =
     tie.close
     (tie.spec
-    Inv-loop
-    μ-loop
-    (λ c. (search needs, refl, rw add-zero))
-    (λ c. search needs)
-    (λ c. search needs)
-    (λ c. search needs)
-    (λ c. search needs)
-    (λ c. search needs)
-    loop-again
-    (λ c. search needs)
-    (λ c. c .before .loop .inv .1)
-    returns)
+    Inv-loop μ-loop (λ c. (search needs, refl, rw add-zero)) (λ c. search needs) (λ c. search needs) (λ c. search needs) (λ c. search needs)
+    (λ c. search needs) loop-again (λ c. search needs) (λ c. c .before .loop .inv .1) returns)

@@ -1,9 +1,5 @@
 -- `lines::reading::push` meets its contract.
-use borrow.Author.Needs.{needs}
-use Prim.Native.Nat.{ℕ, _+_, _*_, _%_, _^_, _≤_, _<_}
-use mathlib.Core.Path.{_≡_, sym}
-use native.Mathlib.Omega.{arith}
-use borrow.Author.Tests.{lt-ltb, le-ltb}
+use Rattle.theory.proofs.Prelude.{ℕ, _≤_, _<_, _+_, _^_, _*_, _%_, _≡_, sym, arith, needs, le-ltb, lt-ltb}
 use Rattle.theory.specs.Tests.{_and_}
 use Rattle.lines.specs.declared.reading.Line.{Line}
 use Rattle.lines.specs.Digits.{digitOf, isDigit}

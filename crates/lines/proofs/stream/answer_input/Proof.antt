@@ -1,9 +1,6 @@
 -- `lines::stream::answer_input` meets its contract: what is printed of a block lies within the slice.
-use borrow.Author.Needs.{needs}
-use Prim.Native.Nat.{ℕ, _≤_}
-use mathlib.Core.Path.{_≡_, sym}
-use native.Mathlib.Omega.{arith}
-use lib.ListN.{length, length-replicate}
+use Rattle.theory.proofs.Prelude.{ℕ, _≤_, _≡_, sym, arith, length, needs}
+use lib.ListN.{length-replicate}
 use lib.Seq.{length-take-le}
 use Rattle.lines.proofs.Stores.{put-length}
 use Rattle.lines.proofs.stream.answer_input.Statement.{statement}
@@ -35,28 +32,8 @@ pub answer-input-spec : {M : Type 1} → statement M
 answer-input-spec =
     tie.close
     (tie.spec
-    Inv-loop
-    μ-loop
-    (λ c κs. search needs)
-    (λ c. (search needs, length-replicate {A = ℕ} 16384 0, length-replicate {A = ℕ} 737280 0))
-    (λ c. search needs)
-    (λ c κs. search needs)
-    (λ c. search needs)
-    (λ c κs. search needs)
-    (λ c. search needs)
-    (λ c. search needs)
-    (λ c. search needs)
-    answer-block-requires
-    (λ c. block-within (c .before))
-    (λ c. sym (length-take-le _ _ (block-within (c .before .before))))
-    (λ c κs. search needs)
-    (λ c. search needs)
-    (λ c. search needs)
-    (λ c. search needs)
-    (λ c. search needs)
-    (λ c. search needs)
-    answer-end-requires
-    (λ c. line-within (c .before))
-    (λ c. sym (length-take-le _ _ (line-within (c .before .before))))
-    (λ c κs. search needs)
-    (λ c. search needs))
+    Inv-loop μ-loop (λ c κs. search needs) (λ c. (search needs, length-replicate {A = ℕ} 16384 0, length-replicate {A = ℕ} 737280 0))
+    (λ c. search needs) (λ c κs. search needs) (λ c. search needs) (λ c κs. search needs) (λ c. search needs) (λ c. search needs) (λ c. search needs)
+    answer-block-requires (λ c. block-within (c .before)) (λ c. sym (length-take-le _ _ (block-within (c .before .before)))) (λ c κs. search needs)
+    (λ c. search needs) (λ c. search needs) (λ c. search needs) (λ c. search needs) (λ c. search needs) answer-end-requires
+    (λ c. line-within (c .before)) (λ c. sym (length-take-le _ _ (line-within (c .before .before)))) (λ c κs. search needs) (λ c. search needs))

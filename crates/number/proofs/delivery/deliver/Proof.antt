@@ -1,7 +1,6 @@
 -- `number::delivery::deliver` meets its contract.
-use mathlib.Core.Path.{sym, ap, _∙_}
-use native.Mathlib.Omega.{arith}
-use Rattle.number.specs.declared.Answer.the-variants.{Value}
+use Rattle.theory.proofs.Prelude.{_∙_, ap, sym, arith}
+use Rattle.format.specs.Given.{gives}
 use Rattle.number.proofs.Membership.{known}
 use Rattle.number.proofs.Values.{delivered-within, delivered-beyond}
 use Rattle.number.proofs.delivery.deliver.Statement.{statement}
@@ -20,7 +19,7 @@ returns-2 : tie.Need-returns-2
 returns-2 c =
     let s = c .before .before .before in
     let k = known (s .pre .0) in
-    ap Value (c .number-at .ensures) ∙ sym (delivered-within (k .admits) (s .pre .1) _ (omega (arith, k .highest, c .before .if1 .left)))
+    ap gives (c .number-at .ensures) ∙ sym (delivered-within (k .admits) (s .pre .1) _ (omega (arith, k .highest, c .before .if1 .left)))
 
 pub deliver-spec : {M : Type 1} → statement M
 deliver-spec = tie.close (tie.spec returns number-at-requires returns-2)

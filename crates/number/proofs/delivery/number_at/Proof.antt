@@ -1,10 +1,5 @@
 -- `number::delivery::number_at` meets its contract.
-use borrow.Author.Needs.{needs}
-use mathlib.Core.Path.{sym, ap, _∙_}
-use native.Mathlib.Omega.{arith}
-use lib.IntN.{ℤ, pos, _+ℤ_}
-use mir.Syntax.{w32}
-use mir.Val.{SFits}
+use Rattle.theory.proofs.Prelude.{_∙_, ap, sym, arith, ℤ, pos, _+ℤ_, w32, SFits, needs}
 use Rattle.format.proofs.Signed.{back}
 use Rattle.number.specs.Signs.{withSign}
 use Rattle.number.proofs.Membership.{known}

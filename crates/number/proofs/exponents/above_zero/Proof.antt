@@ -1,8 +1,5 @@
 -- `number::exponents::above_zero` meets its contract.
-use mathlib.Core.Path.{_≡_, refl}
-use native.Mathlib.Omega.{arith}
-use lib.IntN.{ℤ, pos, negsuc, natAbs}
-use mir.Facts.{fits-natAbs, sfits-lit}
+use Rattle.theory.proofs.Prelude.{_≡_, refl, arith, ℤ, pos, natAbs, negsuc, fits-natAbs, sfits-lit}
 use Rattle.theory.proofs.Integers.{above, below}
 use Rattle.format.proofs.Signed.{Upto, Under, not-negative, back, lt-taken, lt-left}
 use Rattle.number.specs.Exponents.{aboveZero}

@@ -1,10 +1,5 @@
 -- `number::exponents::below_zero` meets its contract: an admitted exponent has a negation of 32 bits.
-use mathlib.Core.Path.{_≡_, refl}
-use native.Mathlib.Omega.{arith}
-use lib.IntN.{ℤ, pos, negsuc, natAbs, _-ℤ_}
-use mir.Syntax.{w32}
-use mir.Val.{SFits}
-use mir.Facts.{fits-natAbs, sfits-lit}
+use Rattle.theory.proofs.Prelude.{_≡_, refl, arith, ℤ, pos, natAbs, _-ℤ_, negsuc, fits-natAbs, sfits-lit, w32, SFits}
 use Rattle.theory.proofs.Integers.{above, below, diff-parts, size-parts}
 use Rattle.format.proofs.Signed.{Under, apart, fits, not-negative, back, lt-taken, lt-left}
 use Rattle.format.proofs.Formats.{exponents}

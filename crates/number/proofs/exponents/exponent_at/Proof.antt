@@ -1,10 +1,5 @@
 -- `number::exponents::exponent_at` meets its contract: the sum is from -1200 to 3600.
-use borrow.Author.Needs.{needs}
-use mathlib.Core.Path.{_≡_}
-use native.Mathlib.Omega.{arith}
-use lib.IntN.{ℤ, pos, _+ℤ_}
-use mir.Syntax.{w32}
-use mir.Val.{SFits, toZ}
+use Rattle.theory.proofs.Prelude.{_≡_, arith, ℤ, pos, _+ℤ_, w32, SFits, toZ, needs}
 use mir.Facts.{toZ-pos}
 use Rattle.theory.proofs.Integers.{sum-parts}
 use Rattle.format.proofs.Signed.{apart, fits, back}

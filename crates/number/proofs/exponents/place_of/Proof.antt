@@ -1,8 +1,5 @@
 -- `number::exponents::place_of` meets its contract.
-use borrow.Author.Needs.{needs}
-use mathlib.Core.Path.{_∙_}
-use mir.Syntax.{w32}
-use mir.Val.{SFits}
+use Rattle.theory.proofs.Prelude.{_∙_, w32, SFits, needs}
 use Rattle.format.proofs.Signed.{back}
 use Rattle.number.proofs.Membership.{members, known}
 use Rattle.number.proofs.Values.{member-exponents}
@@ -18,8 +15,8 @@ e-fits c = search needs
 distance-requires : tie.Need-distance-requires
 distance-requires c κs =
     let s = c .before .before in
-    let k = known (s .pre .0) in
-    rw (back (emin-fits s), back (e-fits s)) (member-exponents (k .admits) (members _ (k .admits) (s .pre .1)))
+    let k = known (s .pre .usable) in
+    rw (back (emin-fits s), back (e-fits s)) (member-exponents (k .admits) (members _ (k .admits) (s .pre .number)))
 
 returns : tie.Need-returns
 returns c = let s = c .before .before .before in c .distance .ensures ∙ rw (back (emin-fits s), back (e-fits s))

@@ -1,8 +1,8 @@
 -- `number::order::compare` meets its contract.
-use borrow.Author.Needs.{needs}
-use mathlib.Core.Path.{sym, _∙_}
+use Rattle.theory.proofs.Prelude.{_∙_, ap, sym, needs}
+use Rattle.format.specs.Given.{gives}
 use Rattle.number.specs.Order.{compared}
-use Rattle.number.proofs.Entries.{passed, two-members, goes-on, ends}
+use Rattle.number.proofs.CheckLaws.{passed, two-members, goes-on, ends}
 use Rattle.number.proofs.order.compare.Statement.{statement}
 use Rattle.number.proofs.order.compare.Tie as tie
 
@@ -14,13 +14,13 @@ compare-values-requires c κs =
 
 returns : tie.Need-returns
 unfolding compared
-returns c = ends _ _ _ _ _ (sym (c .before .before .before .enter-two .ensures) ∙ c .before .why .given .1)
+returns c = ends _ _ _ _ (sym (c .before .before .before .enter-two .ensures) ∙ c .before .why .given .1)
 
 returns-2 : tie.Need-returns-2
 unfolding compared
 returns-2 c =
     let k = c .before in
-    c .compare-values .ensures ∙ goes-on _ _ _ _ _ (sym (k .before .before .enter-two .ensures) ∙ k .enum-told .given .1)
+    ap gives (c .compare-values .ensures) ∙ goes-on _ _ _ _ (sym (k .before .before .enter-two .ensures) ∙ k .enum-told .given .1)
 
 pub compare-spec : {M : Type 1} → statement M
 compare-spec =

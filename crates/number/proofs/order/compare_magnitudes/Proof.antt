@@ -1,8 +1,5 @@
 -- `number::order::compare_magnitudes` meets its contract.
-use borrow.Author.Needs.{needs}
-use native.Mathlib.Omega.{arith}
-use mir.Syntax.{w32}
-use mir.Val.{SFits}
+use Rattle.theory.proofs.Prelude.{arith, w32, SFits, needs}
 use Rattle.format.proofs.Signed.{Upto, lt-taken, lt-left}
 use Rattle.format.proofs.Formats.{Admitted, admits}
 use Rattle.number.proofs.Membership.{Member, members}
@@ -29,11 +26,11 @@ abbrev start : tie.Else2 → tie.Start
 start c = c .before .before .before .before
 
 -- the exponents are equal
-Upward : (c : tie.Else2) → Upto (start c .args .a .exponent) (start c .args .b .exponent)
-Upward c = let s = start c in lt-left (s .args .b .exponent) (s .args .a .exponent) (b-fits s) (a-fits s) (c .if2 .left)
+upward : (c : tie.Else2) → Upto (start c .args .a .exponent) (start c .args .b .exponent)
+upward c = let s = start c in lt-left (s .args .b .exponent) (s .args .a .exponent) (b-fits s) (a-fits s) (c .if2 .left)
 
-Downward : (c : tie.Else2) → Upto (start c .args .b .exponent) (start c .args .a .exponent)
-Downward c = let s = start c in lt-left (s .args .a .exponent) (s .args .b .exponent) (a-fits s) (b-fits s) (c .before .if1 .left)
+downward : (c : tie.Else2) → Upto (start c .args .b .exponent) (start c .args .a .exponent)
+downward c = let s = start c in lt-left (s .args .a .exponent) (s .args .b .exponent) (a-fits s) (b-fits s) (c .before .if1 .left)
 
 returns : tie.Need-returns
 returns c =
@@ -51,19 +48,19 @@ returns-3 : tie.Need-returns-3
 returns-3 c =
     let d = c .before in
     let s = start d in
-    is-less (less-significand (format s) (first s) (second s) (Upward d) (Downward d) (c .if3 .taken))
+    is-less (less-significand (format s) (first s) (second s) (upward d) (downward d) (c .if3 .taken))
 
 returns-4 : tie.Need-returns-4
 returns-4 c =
     let d = c .before .before in
     let s = start d in
-    is-greater (less-significand (format s) (second s) (first s) (Downward d) (Upward d) (c .if4 .taken))
+    is-greater (less-significand (format s) (second s) (first s) (downward d) (upward d) (c .if4 .taken))
 
 returns-5 : tie.Need-returns-5
 returns-5 c =
     let d = c .before .before in
     let s = start d in
-    is-equal (same-significand (format s) (first s) (second s) (Upward d) (Downward d) (omega (arith, c .if4 .left, c .before .if3 .left)))
+    is-equal (same-significand (format s) (first s) (second s) (upward d) (downward d) (omega (arith, c .if4 .left, c .before .if3 .left)))
 
 pub compare-magnitudes-spec : {M : Type 1} → statement M
 compare-magnitudes-spec = tie.close (tie.spec returns returns-2 returns-3 returns-4 returns-5)

@@ -1,7 +1,5 @@
 -- `number::order::compare_values` meets its contract.
-use borrow.Author.Needs.{needs}
-use mathlib.Core.Path.{_≡_, _∙_}
-use mathlib.Core.Bool.{Bool}
+use Rattle.theory.proofs.Prelude.{Bool, _∙_, _≡_, needs}
 use Rattle.theory.specs.Signed.{signed}
 use Rattle.format.specs.declared.Format.{Format}
 use Rattle.format.proofs.Formats.{admits}

@@ -1,16 +1,15 @@
 -- `number::signs::answer_signed` meets its contract.
-use borrow.Author.Needs.{needs}
-use mathlib.Core.Path.{sym, ap, _∙_}
-use Rattle.number.specs.declared.Answer.the-variants.{Value}
+use Rattle.theory.proofs.Prelude.{_∙_, ap, sym, needs}
+use Rattle.format.specs.Given.{gives}
 use Rattle.format.proofs.Formats.{admits}
 use Rattle.number.proofs.Membership.{members}
 use Rattle.number.proofs.Values.{number-of}
-use Rattle.number.proofs.Entries.{passed, one-member, goes-on, ends}
+use Rattle.number.proofs.CheckLaws.{passed, one-member, goes-on, ends}
 use Rattle.number.proofs.signs.answer_signed.Statement.{statement}
 use Rattle.number.proofs.signs.answer_signed.Tie as tie
 
 returns : tie.Need-returns
-returns c = ends _ _ _ _ _ (sym (c .before .before .before .enter .ensures) ∙ c .before .why .given .1)
+returns c = ends _ _ _ _ (sym (c .before .before .before .enter .ensures) ∙ c .before .why .given .1)
 
 returns-2 : tie.Need-returns-2
 returns-2 c =
@@ -18,7 +17,7 @@ returns-2 c =
     let h = sym (k .before .before .enter .ensures) ∙ k .enum-told .given .1 in
     let p = passed _ _ _ h in
     let ok = admits _ (p .format) in
-    ap Value (c .with-sign .ensures ∙ sym (number-of ok (members _ ok (one-member p)) _)) ∙ goes-on _ _ _ _ _ h
+    ap gives (c .with-sign .ensures ∙ sym (number-of ok (members _ ok (one-member p)) _)) ∙ goes-on _ _ _ _ h
 
 pub answer-signed-spec : {M : Type 1} → statement M
 answer-signed-spec = tie.close (tie.spec (λ c κs. search needs) (λ c. search needs) (λ c. search needs) (λ c κs. search needs) returns returns-2)

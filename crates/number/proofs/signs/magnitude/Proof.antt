@@ -1,5 +1,5 @@
 -- `number::signs::magnitude` meets its contract.
-use borrow.Author.Needs.{needs}
+use Rattle.theory.proofs.Prelude.{needs}
 use Rattle.number.specs.Signs.{unsigned}
 use Rattle.number.proofs.signs.magnitude.Statement.{statement}
 use Rattle.number.proofs.signs.magnitude.Tie as tie

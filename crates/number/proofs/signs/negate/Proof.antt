@@ -1,5 +1,5 @@
 -- `number::signs::negate` meets its contract.
-use borrow.Author.Needs.{needs}
+use Rattle.theory.proofs.Prelude.{needs}
 use Rattle.number.specs.Signs.{negated}
 use Rattle.number.proofs.signs.negate.Statement.{statement}
 use Rattle.number.proofs.signs.negate.Tie as tie

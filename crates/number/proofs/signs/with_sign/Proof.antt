@@ -1,12 +1,5 @@
 -- `number::signs::with_sign` meets its contract.
-use borrow.Author.Needs.{needs}
-use mathlib.Core.Path.{_≡_}
-use mathlib.Core.Bool.{Bool, false, not, _&&_}
-use Prim.Native.Nat.{ℕ}
-use lib.Dec.{eqb}
-use borrow.Author.Tests.{eq-eqb, ne-eqb}
-use mir.Syntax.{w32}
-use mir.Val.{SFits}
+use Rattle.theory.proofs.Prelude.{ℕ, false, Bool, not, _&&_, _≡_, eqb, w32, SFits, needs, ne-eqb, eq-eqb}
 use Rattle.format.proofs.Signed.{back}
 use Rattle.number.proofs.signs.with_sign.Statement.{statement}
 use Rattle.number.proofs.signs.with_sign.Tie as tie

@@ -1,8 +1,5 @@
 -- `receivers::spread::extremes` meets its contract.
-use borrow.Author.Needs.{needs}
-use Prim.Native.Nat.{_-_}
-use native.Mathlib.Omega.{arith}
-use lib.ListN.{length}
+use Rattle.theory.proofs.Prelude.{_-_, arith, length, needs}
 use Rattle.receivers.proofs.Spreads.{Reached, reached-first, reached-more, reached-all}
 use Rattle.receivers.proofs.spread.extremes.Statement.{statement}
 use Rattle.receivers.proofs.spread.extremes.Tie as tie
@@ -33,18 +30,5 @@ pub extremes-spec : {M : Type 1} → statement M
 extremes-spec =
     tie.close
     (tie.spec
-    Inv-loop
-    μ-loop
-    (λ c. search needs)
-    (λ c. search needs)
-    loop-holds
-    (λ c. search needs)
-    (λ c. search needs)
-    (λ c κs. search needs)
-    (λ c. search needs)
-    (λ c. search needs)
-    (λ c κs. search needs)
-    (λ c. search needs)
-    (λ c. search needs)
-    loop-again
-    returns)
+    Inv-loop μ-loop (λ c. search needs) (λ c. search needs) loop-holds (λ c. search needs) (λ c. search needs) (λ c κs. search needs)
+    (λ c. search needs) (λ c. search needs) (λ c κs. search needs) (λ c. search needs) (λ c. search needs) loop-again returns)

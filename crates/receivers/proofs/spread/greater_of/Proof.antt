@@ -1,6 +1,6 @@
 -- `receivers::spread::greater_of` meets its contract.
 use Rattle.receivers.proofs.Spreads.{taken-is, left-is}
-use borrow.Author.Needs.{needs}
+use Rattle.theory.proofs.Prelude.{needs}
 use Rattle.receivers.proofs.spread.greater_of.Statement.{statement}
 use Rattle.receivers.proofs.spread.greater_of.Tie as tie
 

@@ -1,6 +1,6 @@
 -- `receivers::spread::is_calm_as` meets its contract.
 use Rattle.receivers.proofs.Spreads.{calm-told}
-use borrow.Author.Needs.{needs}
+use Rattle.theory.proofs.Prelude.{needs}
 use Rattle.receivers.proofs.spread.is_calm_as.Statement.{statement}
 use Rattle.receivers.proofs.spread.is_calm_as.Tie as tie
 

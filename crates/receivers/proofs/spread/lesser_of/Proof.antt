@@ -1,6 +1,6 @@
 -- `receivers::spread::lesser_of` meets its contract.
 use Rattle.receivers.proofs.Spreads.{taken-is, left-is}
-use borrow.Author.Needs.{needs}
+use Rattle.theory.proofs.Prelude.{needs}
 use Rattle.receivers.proofs.spread.lesser_of.Statement.{statement}
 use Rattle.receivers.proofs.spread.lesser_of.Tie as tie
 

@@ -1,12 +1,9 @@
 -- `receivers::stretch::calmer_log` meets its contract.
-use Prim.Native.Nat.{_+_, _-_}
-use mathlib.Core.Path.{_≡_, sym, ap, _∙_}
-use lib.ListN.{take, drop}
+use Rattle.theory.proofs.Prelude.{_+_, _-_, _∙_, ap, _≡_, sym, drop, take, needs}
 use Rattle.receivers.specs.Stretches.{notRefused, calmerRefusal}
 use Rattle.receivers.specs.Spreads.{Logged}
-use Rattle.receivers.specs.Answers.{checkGiven}
+use Rattle.receivers.specs.Answers.{stretchGiven}
 use Rattle.receivers.proofs.Refusals.{Inside, inside, logged-parts, log-refused, log-told}
-use borrow.Author.Needs.{needs}
 use Rattle.receivers.proofs.stretch.calmer_log.Statement.{statement}
 use Rattle.receivers.proofs.stretch.calmer_log.Tie as tie
 
@@ -16,7 +13,7 @@ module _ (j : tie.After-enum-told) where
   st = j .before .before .before .before .before
 
   clear : notRefused ≡ calmerRefusal (st .args .first .now) (st .args .second .now) (st .args .start) (st .args .length)
-  clear = ap checkGiven (sym (j .enum-told .given .1)) ∙ j .before .before .calmer-refusal .ensures
+  clear = ap stretchGiven (sym (j .enum-told .given .1)) ∙ j .before .before .calmer-refusal .ensures
 
   got : Inside (st .args .first .now) (st .args .second .now) (st .args .start) (st .args .length)
   got = inside (st .args .first .now) (st .args .second .now) (st .args .start) (st .args .length) clear
@@ -35,13 +32,13 @@ returns-2 : tie.Need-returns-2
 returns-2 c =
     let r = c .before .before .before in
     let s = r .before .before .before .args in
-    log-refused (s .first .now) (s .second .now) (s .start) (s .length) (ap checkGiven (sym (c .before .why .given .1)) ∙ r .calmer-refusal .ensures)
+    log-refused (s .first .now) (s .second .now) (s .start) (s .length) (ap stretchGiven (sym (c .before .why .given .1)) ∙ r .calmer-refusal .ensures)
 
 returns-3 : tie.Need-returns-3
 returns-3 c =
     let r = c .before .before .before in
     let s = r .before .before .before .args in
-    log-refused (s .first .now) (s .second .now) (s .start) (s .length) (ap checkGiven (sym (c .before .why2 .given .1)) ∙ r .calmer-refusal .ensures)
+    log-refused (s .first .now) (s .second .now) (s .start) (s .length) (ap stretchGiven (sym (c .before .why2 .given .1)) ∙ r .calmer-refusal .ensures)
 
 returns-4 : tie.Need-returns-4
 returns-4 c =
@@ -53,21 +50,7 @@ pub calmer-log-spec : {M : Type 1} → statement M
 calmer-log-spec =
     tie.close
     (tie.spec
-    (λ c κs. search needs)
-    (λ c. search needs)
-    (λ c. search needs)
-    (λ c. search needs)
-    (λ c. search (needs, got c .first-most))
-    (λ c. search (needs, got c .first-most))
-    (λ c. search needs)
-    (λ c. search needs)
-    (λ c. search (needs, got c .first-most))
-    (λ c. search (needs, got (c .before) .second-most))
-    (λ c. search needs)
-    (λ c. search needs)
-    (λ c. search (needs, got (c .before) .second-most))
-    (λ c κs. search (needs, logged c))
-    returns
-    returns-2
-    returns-3
-    returns-4)
+    (λ c κs. search needs) (λ c. search needs) (λ c. search needs) (λ c. search needs) (λ c. search (needs, got c .first-most))
+    (λ c. search (needs, got c .first-most)) (λ c. search needs) (λ c. search needs) (λ c. search (needs, got c .first-most))
+    (λ c. search (needs, got (c .before) .second-most)) (λ c. search needs) (λ c. search needs) (λ c. search (needs, got (c .before) .second-most))
+    (λ c κs. search (needs, logged c)) returns returns-2 returns-3 returns-4)

@@ -1,10 +1,7 @@
 -- `receivers::stretch::calmer_stretch` meets its contract.
-use Prim.Native.Nat.{_+_, _≤_}
-use mathlib.Core.Path.{sym, ap, _∙_}
-use lib.ListN.{length}
+use Rattle.theory.proofs.Prelude.{_≤_, _+_, _∙_, ap, sym, length, needs}
 use Rattle.receivers.specs.Answers.{calmerGiven}
 use Rattle.receivers.proofs.Refusals.{part-is, log-inside, stretch-told}
-use borrow.Author.Needs.{needs}
 use Rattle.receivers.proofs.stretch.calmer_stretch.Statement.{statement}
 use Rattle.receivers.proofs.stretch.calmer_stretch.Tie as tie
 
@@ -41,24 +38,7 @@ pub calmer-stretch-spec : {M : Type 1} → statement M
 calmer-stretch-spec =
     tie.close
     (tie.spec
-    (λ c κs. search needs)
-    (λ c. search needs)
-    (λ c. search (needs, first-most c))
-    (λ c. search (needs, first-most c))
-    (λ c. search needs)
-    (λ c. search needs)
-    (λ c. search (needs, first-most c))
-    (λ c. search needs)
-    (λ c. search (needs, second-most c))
-    (λ c. search (needs, second-most c))
-    (λ c. search needs)
-    (λ c. search needs)
-    (λ c. search (needs, second-most c))
-    (λ c. search needs)
-    (λ c. search needs)
-    (λ c. search needs)
-    (λ c. search needs)
-    returns
-    returns-2
-    returns-3
-    returns-4)
+    (λ c κs. search needs) (λ c. search needs) (λ c. search (needs, first-most c)) (λ c. search (needs, first-most c)) (λ c. search needs)
+    (λ c. search needs) (λ c. search (needs, first-most c)) (λ c. search needs) (λ c. search (needs, second-most c))
+    (λ c. search (needs, second-most c)) (λ c. search needs) (λ c. search needs) (λ c. search (needs, second-most c)) (λ c. search needs)
+    (λ c. search needs) (λ c. search needs) (λ c. search needs) returns returns-2 returns-3 returns-4)

@@ -1,7 +1,6 @@
 -- `receivers::stretch::check_finite` meets its contract.
-use native.Mathlib.Omega.{arith}
+use Rattle.theory.proofs.Prelude.{arith, needs}
 use Rattle.receivers.proofs.Refusals.{not-finite-at, all-are-finite}
-use borrow.Author.Needs.{needs}
 use Rattle.receivers.proofs.stretch.check_finite.Statement.{statement}
 use Rattle.receivers.proofs.stretch.check_finite.Tie as tie
 
@@ -21,12 +20,5 @@ pub check-finite-spec : {M : Type 1} → statement M
 check-finite-spec =
     tie.close
     (tie.spec
-    (λ c. search needs)
-    (λ c. search needs)
-    (λ c. search needs)
-    (λ c. search needs)
-    (λ c. search needs)
-    (λ c κs. search needs)
-    (λ c. search needs)
-    returns
-    returns-2)
+    (λ c. search needs) (λ c. search needs) (λ c. search needs) (λ c. search needs) (λ c. search needs) (λ c κs. search needs) (λ c. search needs)
+    returns returns-2)

@@ -1,7 +1,6 @@
 -- `receivers::stretch::ends_within` meets its contract.
-use native.Mathlib.Omega.{arith}
+use Rattle.theory.proofs.Prelude.{arith, needs}
 use Rattle.receivers.proofs.Refusals.{ends-made, ends-not}
-use borrow.Author.Needs.{needs}
 use Rattle.receivers.proofs.stretch.ends_within.Statement.{statement}
 use Rattle.receivers.proofs.stretch.ends_within.Tie as tie
 

@@ -1,8 +1,5 @@
 -- `rounding::cutting::cut` meets its contract: at a place above 0 all digits are kept.
-use borrow.Author.Needs.{needs}
-use Prim.Native.Nat.{ℕ, _^_, _+_, _*_, _-_, _≤_}
-use mathlib.Core.Path.{sym, ap, _∙_}
-use native.Mathlib.Omega.{arith}
+use Rattle.theory.proofs.Prelude.{ℕ, _≤_, _+_, _^_, _*_, _-_, _∙_, ap, sym, arith, needs}
 use Rattle.rounding.specs.Cut.{cutOf, dropped}
 use Rattle.rounding.proofs.Scales.{positional, digits-most, count-most}
 use Rattle.rounding.proofs.Places.{extend-small, divisor-fits, cut-extend, cut-drop, cut-zero}
@@ -69,16 +66,5 @@ pub cut-spec : {M : Type 1} → statement M
 cut-spec =
     tie.close
     (tie.spec
-    returns
-    (λ c κs. search needs)
-    add-high
-    add-low
-    cut-small-requires
-    (λ c. search needs)
-    (λ c. search needs)
-    (λ c. search needs)
-    extend-requires
-    power-requires
-    divide-requires
-    returns-3
-    returns-4)
+    returns (λ c κs. search needs) add-high add-low cut-small-requires (λ c. search needs) (λ c. search needs) (λ c. search needs) extend-requires
+    power-requires divide-requires returns-3 returns-4)

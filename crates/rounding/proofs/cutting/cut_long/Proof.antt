@@ -1,10 +1,5 @@
 -- `rounding::cutting::cut_long` meets its contract: the divisor has the digits beyond the format's.
-use borrow.Author.Needs.{needs}
-use Prim.Native.Nat.{ℕ, _+_, _-_}
-use mathlib.Core.Path.{sym, ap, _∙_}
-use mathlib.Core.Logic.{⊎-elim}
-use native.Mathlib.Nat.{mul-le-mul}
-use native.Mathlib.Omega.{arith}
+use Rattle.theory.proofs.Prelude.{ℕ, _+_, _-_, ⊎-elim, _∙_, ap, sym, mul-le-mul, arith, needs}
 use Rattle.rounding.specs.Cut.{dropped}
 use Rattle.rounding.proofs.Scales.{positional, digits-most, count-most, unit-most}
 use Rattle.rounding.proofs.Places.{Beyond, beyond-at, beyond-unit, beyond-next, divisor-fits, cut-drop}
@@ -67,15 +62,5 @@ pub cut-long-spec : {M : Type 1} → statement M
 cut-long-spec =
     tie.close
     (tie.spec
-    (λ c. search needs)
-    mul-if1
-    (λ c. search needs)
-    mul-divisor
-    add-beyond
-    add-high
-    (λ c. search needs)
-    divide-requires
-    returns
-    add-cut-small
-    cut-small-requires
-    (λ c. search needs))
+    (λ c. search needs) mul-if1 (λ c. search needs) mul-divisor add-beyond add-high (λ c. search needs) divide-requires returns add-cut-small
+    cut-small-requires (λ c. search needs))

@@ -1,8 +1,5 @@
 -- `rounding::cutting::cut_small` meets its contract: the place is 0, and the shift says which way to go.
-use borrow.Author.Needs.{needs}
-use Prim.Native.Nat.{ℕ, _-_}
-use mathlib.Core.Path.{sym, ap, _∙_}
-use native.Mathlib.Omega.{arith}
+use Rattle.theory.proofs.Prelude.{ℕ, _-_, _∙_, ap, sym, arith, needs}
 use Rattle.rounding.specs.Cut.{dropped}
 use Rattle.rounding.proofs.Scales.{positional}
 use Rattle.rounding.proofs.Places.{extend-small, divisor-fits, cut-extend, cut-drop, cut-under}

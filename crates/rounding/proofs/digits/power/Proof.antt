@@ -1,8 +1,5 @@
 -- `rounding::digits::power` meets its contract: above the digits, top times the power of the rest.
-use borrow.Author.Needs.{needs}
-use Prim.Native.Nat.{_*_, _^_}
-use mathlib.Core.Path.{_≡_}
-use native.Mathlib.Omega.{arith}
+use Rattle.theory.proofs.Prelude.{_^_, _*_, _≡_, arith, needs}
 use Rattle.rounding.proofs.Scales.{power-beyond, power-most}
 use Rattle.rounding.proofs.digits.power.Statement.{statement}
 use Rattle.rounding.proofs.digits.power.Tie as tie
@@ -23,12 +20,5 @@ pub power-spec : {M : Type 1} → statement M
 power-spec =
     tie.close
     (tie.spec
-    (λ c κs. search needs)
-    (λ c. search needs)
-    (λ c. search needs)
-    (λ c. search needs)
-    (λ c. search needs)
-    (λ c κs. search needs)
-    (λ c. search needs)
-    mul-result
-    returns-2)
+    (λ c κs. search needs) (λ c. search needs) (λ c. search needs) (λ c. search needs) (λ c. search needs) (λ c κs. search needs) (λ c. search needs)
+    mul-result returns-2)

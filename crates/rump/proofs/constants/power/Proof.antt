@@ -1,24 +1,13 @@
 -- `rump::constants::power` meets its contract.
-use borrow.Author.Needs.{needs}
-use Prim.Native.Nat.{ℕ, _+_, _*_, _^_}
-use mathlib.Core.Path.{_≡_, ap, _∙_}
-use mathlib.Core.Bool.{false}
-use native.Mathlib.Nat.{mul-comm}
-use native.Mathlib.Omega.{arith}
-use mir.Syntax.{w32}
-use mir.Val.{SFits}
+use Rattle.theory.proofs.Prelude.{ℕ, _+_, _^_, _*_, false, _∙_, ap, _≡_, mul-comm, arith, w32, SFits, needs}
 use Rattle.theory.proofs.Powers.{pow-add}
 use Rattle.format.proofs.Signed.{back}
-use Rattle.number.specs.declared.Number.{Number}
-use Rattle.number.specs.declared.Answer.the-variants.{Value}
 use Rattle.number.specs.Exponents.{belowZero}
 use Rattle.number.specs.Numbers.{number}
 use Rattle.number.proofs.Membership.{known}
 use Rattle.number.proofs.Values.{emin-admitted}
 use Rattle.arithmetic.proofs.Prepared.{below-most}
-use Rattle.rump.specs.Steps.{isLine}
 use Rattle.rump.proofs.Reach.{reach}
-use Rattle.rump.proofs.Lines.{line-made, power-line}
 use Rattle.rump.proofs.constants.power.Statement.{statement}
 use Rattle.rump.proofs.constants.power.Tie as tie
 
@@ -52,12 +41,9 @@ split β i k = pow-add β i k ∙ mul-comm (β ^ i) (β ^ k)
 returns : tie.Need-returns
 returns c =
     let u = c .before in
-    let s = u .before .before in
-    let f = s .args .prepared .format in
-    let a = known (s .pre .0) .admits in
-    let k = s .args .k in
-    let is = c .power-number .ensures ∙ ap (λ (i : ℕ). number f false (f .base ^ (i + k))) (unit u) ∙ ap (number f false) (split (f .base) (belowZero (f .emin)) k) in
-    (ap Value is, ap (λ (x : Number). isLine f (Value x)) is ∙ line-made (power-line a (reach a (s .pre .1)) k (s .pre .2)))
+    let s = u .before .before .args in
+    let f = s .prepared .format in
+    c .power-number .ensures ∙ ap (λ (i : ℕ). number f false (f .base ^ (i + s .k))) (unit u) ∙ ap (number f false) (split (f .base) (belowZero (f .emin)) (s .k))
 
 pub power-spec : {M : Type 1} → statement M
 power-spec =

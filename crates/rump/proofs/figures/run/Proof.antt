@@ -1,15 +1,15 @@
 -- `rump::figures::run` meets its contract.
-use borrow.Author.Needs.{needs}
-use mathlib.Core.Path.{_≡_, sym, ap, _∙_}
+use Rattle.theory.proofs.Prelude.{_∙_, ap, _≡_, sym, needs}
 use Rattle.format.specs.declared.Format.{Format}
-use Rattle.number.specs.declared.Answer.{Answer}
+use Rattle.format.specs.Given.{Given}
+use Rattle.number.specs.declared.Number.{Number}
 use Rattle.rump.specs.declared.Figure.{Figure}
 use Rattle.rump.specs.Routes.{figureOf}
 use Rattle.rump.proofs.figures.run.Statement.{statement}
 use Rattle.rump.proofs.figures.run.Tie as tie
 
 -- the figure that was matched
-by : (f : Format) (x : Answer) {figure arm : Figure} {r : Answer} → figure ≡ arm → r ≡ figureOf arm f x → r ≡ figureOf figure f x
+by : (f : Format) (x : Number) {figure arm : Figure} {r : Given Number} → figure ≡ arm → r ≡ figureOf arm f x → r ≡ figureOf figure f x
 by f x e h = h ∙ sym (ap (λ (g : Figure). figureOf g f x) e)
 
 returns : tie.Need-returns
@@ -28,15 +28,5 @@ pub run-spec : {M : Type 1} → statement M
 run-spec =
     tie.close
     (tie.spec
-    (λ c. search needs)
-    (λ c κs. search needs)
-    (λ c. search needs)
-    (λ c κs. search needs)
-    (λ c. search needs)
-    (λ c κs. search needs)
-    (λ c. search needs)
-    (λ c κs. search needs)
-    returns
-    returns-2
-    returns-3
-    returns-4)
+    (λ c. search needs) (λ c κs. search needs) (λ c. search needs) (λ c κs. search needs) (λ c. search needs) (λ c κs. search needs)
+    (λ c. search needs) (λ c κs. search needs) returns returns-2 returns-3 returns-4)

@@ -1,10 +1,5 @@
 -- `rump::premises::exponents_suffice` meets its contract.
-use borrow.Author.Needs.{needs}
-use mathlib.Core.Path.{_≡_, ap₂, _∙_}
-use native.Mathlib.Omega.{arith}
-use lib.Dec.{leb}
-use mir.Syntax.{w32}
-use mir.Val.{SFits}
+use Rattle.theory.proofs.Prelude.{_∙_, _≡_, ap₂, arith, leb, w32, SFits, needs}
 use Rattle.theory.proofs.Tests.{refuted}
 use Rattle.format.proofs.Signed.{back}
 use Rattle.number.specs.Exponents.{aboveZero, belowZero}

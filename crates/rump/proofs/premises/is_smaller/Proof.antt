@@ -1,9 +1,7 @@
 -- `rump::premises::is_smaller` meets its contract.
-use borrow.Author.Needs.{needs}
-use mathlib.Core.Path.{sym, _∙_}
+use Rattle.theory.proofs.Prelude.{_∙_, sym, needs, le-ltb, lt-ltb}
 use native.Mathlib.Nat.{le-of-lt}
-use borrow.Author.Tests.{lt-ltb, le-ltb}
-use Rattle.number.proofs.Comparison.{size-less-says, size-equal-says, size-greater-says, size-never-refused}
+use Rattle.number.proofs.Comparison.{size-less-says, size-equal-says, size-greater-says}
 use Rattle.rump.proofs.premises.is_smaller.Statement.{statement}
 use Rattle.rump.proofs.premises.is_smaller.Tie as tie
 
@@ -16,19 +14,8 @@ returns-2 c = sym (le-ltb _ _ (size-equal-says (sym (c .before .before .compare-
 returns-3 : tie.Need-returns-3
 returns-3 c = sym (le-ltb _ _ (le-of-lt (size-greater-says (sym (c .before .before .compare-magnitudes .ensures) ∙ c .enum-told3 .given .1))))
 
-returns-4 : tie.Need-returns-4
-returns-4 c = absurd (size-never-refused _ _ _ (sym (c .before .before .compare-magnitudes .ensures) ∙ c .enum-told4 .given .1))
-
 pub is-smaller-spec : {M : Type 1} → statement M
 is-smaller-spec =
     tie.close
     (tie.spec
-    (λ c κs. search needs)
-    (λ c. search needs)
-    (λ c. search needs)
-    (λ c. search needs)
-    (λ c. search needs)
-    returns
-    returns-2
-    returns-3
-    returns-4)
+    (λ c κs. search needs) (λ c. search needs) (λ c. search needs) (λ c. search needs) returns returns-2 returns-3)

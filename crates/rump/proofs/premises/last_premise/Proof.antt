@@ -1,20 +1,12 @@
 -- `rump::premises::last_premise` meets its contract.
-use borrow.Author.Needs.{needs}
-use Prim.Native.Nat.{ℕ, _*_, _-_, _^_, _≤_}
-use mathlib.Core.Path.{_≡_, sym, ap, ap₂, _∙_}
-use mathlib.Core.Bool.{true, false}
-use mathlib.Core.Logic.{inr}
-use native.Mathlib.Nat.{le-refl, mul-pos, mul-le-mul-right, pow-zero}
-use native.Mathlib.Omega.{arith}
-use lib.Dec.{ltb}
-use lib.IntN.{pos}
+use Rattle.theory.proofs.Prelude.{ℕ, _≤_, _^_, _*_, _-_, true, false, inr, _∙_, ap, _≡_, sym, ap₂, mul-le-mul-right, pow-zero, mul-pos, le-refl, arith, ltb, pos, needs}
 use Rattle.theory.specs.Wide.{Canonical}
 use Rattle.theory.proofs.Tests.{never, refuted, denied, granted}
 use Rattle.theory.proofs.Powers.{pow-pos, pow-half}
 use Rattle.format.specs.declared.Format.{Format}
 use Rattle.format.specs.declared.Prepared.{Prepared}
 use Rattle.number.specs.declared.Number.{Number}
-use Rattle.number.specs.Entry.{Usable}
+use Rattle.number.specs.Checks.{Usable}
 use Rattle.number.specs.Numbers.{placeOf, magnitude, greatest, number}
 use Rattle.number.proofs.Membership.{members, known}
 use Rattle.number.proofs.Values.{member-greatest, greatest-wide}
@@ -41,7 +33,7 @@ suffice c = let e = c .before in granted (e .before .exponents-suffice .ensures)
 returns-2 : tie.Need-returns-2
 returns-2 c =
     let s = start (c .before) in
-    refuted (λ h. omega (arith, last (s .pre .0) (s .args .x) (s .pre .1) h .some, no-magnitude (s .args .prepared .format) (s .args .x) (c .if2 .taken)))
+    refuted (λ h. omega (arith, last (s .pre .usable) (s .args .x) (s .pre .number) h .some, no-magnitude (s .args .prepared .format) (s .args .x) (c .if2 .taken)))
 
 -- ---- the greatest number
 two-least : {q : Prepared} → Usable q → 2 ≤ q .format .base ^ q .format .digits
@@ -49,7 +41,7 @@ two-least {q} u = let a = known u .admits in omega (arith, pow-zero (q .format .
 
 sub-number-at : tie.Need-sub-number-at
 sub-number-at c =
-    let u = start (c .before) .pre .0 in
+    let u = start (c .before) .pre .usable in
     omega (arith, known u .top, two-least u)
 
 digits-full : {β p t : ℕ} → 2 ≤ β → 2 ≤ β ^ p → t ≡ β ^ p → (k : ℕ) → Canonical β p (t - 1) k
@@ -57,7 +49,7 @@ digits-full {β} {p} {t} b two e k = record { small = omega arith; full = inr (o
 
 number-at-requires : tie.Need-number-at-requires
 number-at-requires c κs =
-    let u = start (c .before) .pre .0 in
+    let u = start (c .before) .pre .usable in
     (u, digits-full (known u .admits .base-low) (two-least u) (known u .top) _, le-refl _)
 
 top : (c : tie.After-number-at) → let f = start (c .before .before) .args .prepared .format in Has f (c .number-at .result) (pos (greatest f))
@@ -65,12 +57,12 @@ unfolding greatest
 top c =
     let s = start (c .before .before) in
     let f = s .args .prepared .format in
-    let k = known (s .pre .0) in
+    let k = known (s .pre .usable) in
     number-has (k .admits) (greatest-wide (k .admits)) (le-refl _)
     (c .number-at .ensures ∙ ap (number f false) (ap₂ (λ (t h : ℕ). (t - 1) * f .base ^ h) (k .top) (k .highest)))
 
 is-smaller-requires : tie.Need-is-smaller-requires
-is-smaller-requires c κs = let s = start (c .before .before) in (s .pre .0 .format, s .pre .1, top c .number)
+is-smaller-requires c κs = let s = start (c .before .before) in (s .pre .usable .format, s .pre .number, top c .number)
 
 some : (f : Format) (x : Number) → 2 ≤ f .base → (x .significand ≡ 0 → ⊥) → 1 ≤ magnitude f x
 unfolding magnitude
@@ -83,18 +75,12 @@ returns-3 c =
     let s = start (e .before) in
     let f = s .args .prepared .format in
     let x = s .args .x in
-    let a = known (s .pre .0) .admits in
+    let a = known (s .pre .usable) .admits in
     c .is-smaller .ensures ∙ ap (ltb (magnitude f x)) (has-size (top n))
-    ∙ last-by f x (suffice (e .before)) (some f x (a .base-low) (e .if2 .left)) (member-greatest a (members x a (s .pre .1)))
+    ∙ last-by f x (suffice (e .before)) (some f x (a .base-low) (e .if2 .left)) (member-greatest a (members x a (s .pre .number)))
 
 pub last-premise-spec : {M : Type 1} → statement M
 last-premise-spec =
     tie.close
     (tie.spec
-    (λ c κs. search needs)
-    returns
-    returns-2
-    sub-number-at
-    number-at-requires
-    is-smaller-requires
-    returns-3)
+    (λ c κs. search needs) returns returns-2 sub-number-at number-at-requires is-smaller-requires returns-3)

@@ -1,7 +1,5 @@
 -- `rump::premises::premise_holds` meets its contract.
-use borrow.Author.Needs.{needs}
-use mathlib.Core.Path.{_≡_, sym, ap, _∙_}
-use mathlib.Core.Bool.{Bool}
+use Rattle.theory.proofs.Prelude.{Bool, _∙_, ap, _≡_, sym, needs}
 use Rattle.format.specs.declared.Format.{Format}
 use Rattle.number.specs.declared.Number.{Number}
 use Rattle.rump.specs.declared.Figure.{Figure}
@@ -29,15 +27,5 @@ pub premise-holds-spec : {M : Type 1} → statement M
 premise-holds-spec =
     tie.close
     (tie.spec
-    (λ c. search needs)
-    (λ c κs. search needs)
-    (λ c. search needs)
-    (λ c κs. search needs)
-    (λ c. search needs)
-    (λ c κs. search needs)
-    (λ c. search needs)
-    (λ c κs. search needs)
-    returns
-    returns-2
-    returns-3
-    returns-4)
+    (λ c. search needs) (λ c κs. search needs) (λ c. search needs) (λ c κs. search needs) (λ c. search needs) (λ c κs. search needs)
+    (λ c. search needs) (λ c κs. search needs) returns returns-2 returns-3 returns-4)

@@ -1,8 +1,5 @@
 -- `saved_lines::checks::check_lines` meets its contract.
-use mathlib.Core.Path.{sym, _∙_}
-use native.Mathlib.Omega.{arith}
-use borrow.Author.Tests.{not-true, not-false}
-use borrow.Author.Needs.{needs}
+use Rattle.theory.proofs.Prelude.{_∙_, sym, arith, needs, not-true, not-false}
 use Rattle.saved_lines.proofs.Checking.{no-lines, many-lines, bad-pattern, bad-number, bad-order, bad-neighbours, all-passed}
 use Rattle.saved_lines.proofs.checks.check_lines.Statement.{statement}
 use Rattle.saved_lines.proofs.checks.check_lines.Tie as tie
@@ -62,14 +59,5 @@ pub check-lines-spec : {M : Type 1} → statement M
 check-lines-spec =
     tie.close
     (tie.spec
-    returns
-    returns-2
-    (λ c κs. search needs)
-    (λ c. search needs)
-    returns-3
-    returns-4
-    (λ c κs. search needs)
-    returns-5
-    (λ c κs. search needs)
-    returns-6
+    returns returns-2 (λ c κs. search needs) (λ c. search needs) returns-3 returns-4 (λ c κs. search needs) returns-5 (λ c κs. search needs) returns-6
     returns-7)

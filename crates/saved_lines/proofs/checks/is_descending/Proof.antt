@@ -1,11 +1,5 @@
 -- `saved_lines::checks::is_descending` meets its contract: no offset that was passed is above the next.
-use borrow.Author.Needs.{needs}
-use Prim.Native.Nat.{ℕ, suc, _≤_, _<_, _-_}
-use mathlib.Core.Path.{_≡_, sym, _∙_}
-use mathlib.Core.Bool.{false}
-use native.Mathlib.Omega.{arith}
-use lib.ListN.{length, getD}
-use lib.Signed.{ltZ}
+use Rattle.theory.proofs.Prelude.{ℕ, _≤_, _<_, _-_, suc, false, _∙_, _≡_, sym, arith, length, getD, ltZ, needs}
 use Rattle.binary32.specs.Patterns.{patternValue}
 use Rattle.theory.proofs.Lists.{neighbours-more}
 use Rattle.saved_lines.proofs.Offsets.{descends-here, descends-nowhere}
@@ -41,17 +35,5 @@ pub is-descending-spec : {M : Type 1} → statement M
 is-descending-spec =
     tie.close
     (tie.spec
-    Inv-loop
-    μ-loop
-    loop-holds
-    (λ c. search needs)
-    (λ c. search needs)
-    (λ c. search needs)
-    (λ c. search needs)
-    (λ c. search needs)
-    (λ c κs. search needs)
-    returns
-    (λ c. search needs)
-    (λ c. search needs)
-    loop-again
-    returns-2)
+    Inv-loop μ-loop loop-holds (λ c. search needs) (λ c. search needs) (λ c. search needs) (λ c. search needs) (λ c. search needs)
+    (λ c κs. search needs) returns (λ c. search needs) (λ c. search needs) loop-again returns-2)

@@ -1,10 +1,5 @@
 -- `saved_lines::checks::is_repeating` meets its contract: no offset that was passed equals the next.
-use borrow.Author.Needs.{needs}
-use Prim.Native.Nat.{ℕ, suc, _≤_, _<_, _-_}
-use mathlib.Core.Path.{_≡_, sym}
-use mathlib.Core.Bool.{false}
-use native.Mathlib.Omega.{arith}
-use lib.ListN.{length, getD}
+use Rattle.theory.proofs.Prelude.{ℕ, _≤_, _<_, _-_, suc, false, _≡_, sym, arith, length, getD, needs}
 use Rattle.binary32.specs.Patterns.{patternValue}
 use Rattle.saved_lines.specs.Offsets.{equals}
 use Rattle.theory.proofs.Lists.{neighbours-more}
@@ -41,17 +36,5 @@ pub is-repeating-spec : {M : Type 1} → statement M
 is-repeating-spec =
     tie.close
     (tie.spec
-    Inv-loop
-    μ-loop
-    loop-holds
-    (λ c. search needs)
-    (λ c. search needs)
-    (λ c. search needs)
-    (λ c. search needs)
-    (λ c. search needs)
-    (λ c κs. search needs)
-    returns
-    (λ c. search needs)
-    (λ c. search needs)
-    loop-again
-    returns-2)
+    Inv-loop μ-loop loop-holds (λ c. search needs) (λ c. search needs) (λ c. search needs) (λ c. search needs) (λ c. search needs)
+    (λ c κs. search needs) returns (λ c. search needs) (λ c. search needs) loop-again returns-2)

@@ -1,5 +1,5 @@
 -- `saved_lines::distances::is_greater_nearer` meets its contract.
-use borrow.Author.Needs.{needs}
+use Rattle.theory.proofs.Prelude.{needs}
 use Rattle.saved_lines.proofs.DistanceLaws.{greater-below, greater-above, greater-nearer}
 use Rattle.saved_lines.proofs.distances.is_greater_nearer.Statement.{statement}
 use Rattle.saved_lines.proofs.distances.is_greater_nearer.Tie as tie
@@ -17,9 +17,4 @@ pub is-greater-nearer-spec : {M : Type 1} → statement M
 is-greater-nearer-spec =
     tie.close
     (tie.spec
-    (λ c κs. search needs)
-    returns
-    (λ c κs. search needs)
-    returns-2
-    (λ c κs. search needs)
-    returns-3)
+    (λ c κs. search needs) returns (λ c κs. search needs) returns-2 (λ c κs. search needs) returns-3)

@@ -1,6 +1,5 @@
 -- `saved_lines::distances::is_nearer` meets its contract.
-use mathlib.Core.Path.{sym, _∙_}
-use borrow.Author.Needs.{needs}
+use Rattle.theory.proofs.Prelude.{_∙_, sym, needs}
 use Rattle.saved_lines.proofs.DistanceLaws.{smaller-nearer, equal-nearer}
 use Rattle.saved_lines.proofs.distances.is_nearer.Statement.{statement}
 use Rattle.saved_lines.proofs.distances.is_nearer.Tie as tie
@@ -28,10 +27,4 @@ pub is-nearer-spec : {M : Type 1} → statement M
 is-nearer-spec =
     tie.close
     (tie.spec
-    (λ c κs. search needs)
-    is-greater-nearer-requires
-    returns
-    (λ c κs. search needs)
-    (λ c κs. search needs)
-    returns-2
-    returns-3)
+    (λ c κs. search needs) is-greater-nearer-requires returns (λ c κs. search needs) (λ c κs. search needs) returns-2 returns-3)

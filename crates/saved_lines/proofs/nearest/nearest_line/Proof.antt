@@ -1,9 +1,5 @@
 -- `saved_lines::nearest::nearest_line` meets its contract.
-use Prim.Native.Nat.{ℕ}
-use mathlib.Core.Path.{_≡_, sym, ap, _∙_}
-use mathlib.Core.Bool.{true}
-use mathlib.Core.List.{List}
-use borrow.Author.Needs.{needs}
+use Rattle.theory.proofs.Prelude.{ℕ, true, List, _∙_, ap, _≡_, sym, needs}
 use Rattle.format.specs.Given.{gives}
 use Rattle.binary32.specs.Patterns.{finite}
 use Rattle.saved_lines.specs.declared.Check.the-variants.{Passed}
@@ -59,13 +55,5 @@ pub nearest-line-spec : {M : Type 1} → statement M
 nearest-line-spec =
     tie.close
     (tie.spec
-    (λ c κs. search needs)
-    (λ c κs. search needs)
-    (λ c. search needs)
-    (λ c. search needs)
-    (λ c. search needs)
-    nearest-position-requires
-    cast
-    returns
-    returns-2
-    returns-3)
+    (λ c κs. search needs) (λ c κs. search needs) (λ c. search needs) (λ c. search needs) (λ c. search needs) nearest-position-requires cast returns
+    returns-2 returns-3)

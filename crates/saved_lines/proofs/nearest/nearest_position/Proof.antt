@@ -1,11 +1,5 @@
 -- `saved_lines::nearest::nearest_position` meets its contract.
-use Prim.Native.Nat.{ℕ, _-_, _≤_}
-use mathlib.Core.Path.{sym, _∙_}
-use mathlib.Core.List.{List}
-use mathlib.Core.Logic.{⊎-elim}
-use native.Mathlib.Omega.{arith}
-use lib.ListN.{length}
-use borrow.Author.Needs.{needs}
+use Rattle.theory.proofs.Prelude.{ℕ, _≤_, _-_, List, ⊎-elim, _∙_, sym, arith, length, needs}
 use Rattle.saved_lines.proofs.Offsets.{finite-at}
 use Rattle.saved_lines.proofs.Positions.{next-most, found-first, found-right, found-left}
 use Rattle.saved_lines.proofs.nearest.nearest_position.Statement.{statement}
@@ -48,14 +42,5 @@ pub nearest-position-spec : {M : Type 1} → statement M
 nearest-position-spec =
     tie.close
     (tie.spec
-    (λ c κs. search needs)
-    returns
-    (λ c. search needs)
-    (λ c. search needs)
-    (λ c. search needs)
-    (λ c. search needs)
-    (λ c. search needs)
-    is-nearer-requires
-    returns-2
-    (λ c. search needs)
-    returns-3)
+    (λ c κs. search needs) returns (λ c. search needs) (λ c. search needs) (λ c. search needs) (λ c. search needs) (λ c. search needs)
+    is-nearer-requires returns-2 (λ c. search needs) returns-3)

@@ -1,6 +1,5 @@
 -- `saved_lines::reach::are_finite` meets its contract.
-use mathlib.Core.Path.{sym, _∙_}
-use borrow.Author.Needs.{needs}
+use Rattle.theory.proofs.Prelude.{_∙_, sym, needs}
 use Rattle.theory.proofs.Tests.{and-failed, and-passed, denied, granted}
 use Rattle.saved_lines.proofs.reach.are_finite.Statement.{statement}
 use Rattle.saved_lines.proofs.reach.are_finite.Tie as tie

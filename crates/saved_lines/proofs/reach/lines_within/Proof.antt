@@ -1,11 +1,5 @@
 -- `saved_lines::reach::lines_within` meets its contract.
-use Prim.Native.Nat.{ℕ, _-_}
-use mathlib.Core.Path.{_≡_, refl, sym, ap, _∙_}
-use mathlib.Core.Bool.{true}
-use mathlib.Core.List.{List, _++_}
-use native.Mathlib.Omega.{arith}
-use lib.ListN.{length, drop}
-use borrow.Author.Needs.{needs}
+use Rattle.theory.proofs.Prelude.{ℕ, _-_, true, List, _++_, _∙_, ap, _≡_, sym, refl, arith, length, drop, needs}
 use Rattle.theory.specs.Tests.{_and_}
 use Rattle.theory.proofs.Tests.{and-left}
 use Rattle.binary32.specs.Patterns.{finite, patternValue, patternValues}
@@ -99,17 +93,5 @@ pub lines-within-spec : {M : Type 1} → statement M
 lines-within-spec =
     tie.close
     (tie.spec
-    (λ c κs. search needs)
-    (λ c κs. search needs)
-    (λ c. search needs)
-    (λ c. search needs)
-    (λ c. search needs)
-    range-within-requires
-    sub-count
-    returns
-    write-outward-requires
-    cast-count
-    returns-2
-    returns-3
-    (λ c. search needs)
-    returns-4)
+    (λ c κs. search needs) (λ c κs. search needs) (λ c. search needs) (λ c. search needs) (λ c. search needs) range-within-requires sub-count returns
+    write-outward-requires cast-count returns-2 returns-3 (λ c. search needs) returns-4)

@@ -1,10 +1,7 @@
 -- `saved_lines::reach::next_line` meets its contract.
-use Prim.Native.Nat.{_-_}
-use mathlib.Core.Path.{sym, _∙_}
-use native.Mathlib.Omega.{arith}
+use Rattle.theory.proofs.Prelude.{_-_, _∙_, sym, arith, needs}
 use Rattle.saved_lines.proofs.Offsets.{finite-at}
 use Rattle.saved_lines.proofs.Walks.{left-next, right-next}
-use borrow.Author.Needs.{needs}
 use Rattle.saved_lines.proofs.reach.next_line.Statement.{statement}
 use Rattle.saved_lines.proofs.reach.next_line.Tie as tie
 
@@ -41,15 +38,5 @@ pub next-line-spec : {M : Type 1} → statement M
 next-line-spec =
     tie.close
     (tie.spec
-    returns
-    (λ c. search needs)
-    returns-2
-    (λ c. search needs)
-    (λ c. search needs)
-    (λ c. search needs)
-    (λ c. search needs)
-    (λ c. search needs)
-    is-nearer-requires
-    returns-3
-    (λ c. search needs)
-    returns-4)
+    returns (λ c. search needs) returns-2 (λ c. search needs) (λ c. search needs) (λ c. search needs) (λ c. search needs) (λ c. search needs)
+    is-nearer-requires returns-3 (λ c. search needs) returns-4)

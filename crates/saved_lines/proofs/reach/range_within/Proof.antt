@@ -1,6 +1,6 @@
 -- `saved_lines::reach::range_within` meets its contract.
 use Rattle.saved_lines.proofs.Reaches.{around-none, around-some}
-use borrow.Author.Needs.{needs}
+use Rattle.theory.proofs.Prelude.{needs}
 use Rattle.saved_lines.proofs.reach.range_within.Statement.{statement}
 use Rattle.saved_lines.proofs.reach.range_within.Tie as tie
 
@@ -22,8 +22,4 @@ pub range-within-spec : {M : Type 1} → statement M
 range-within-spec =
     tie.close
     (tie.spec
-    (λ c κs. search needs)
-    (λ c κs. search needs)
-    (λ c κs. search needs)
-    returns
-    returns-2)
+    (λ c κs. search needs) (λ c κs. search needs) (λ c κs. search needs) returns returns-2)

@@ -1,9 +1,6 @@
 -- `saved_lines::reach::write_outward` meets its contract: what is written, then what is left in its order, is the whole in its order.
-use Prim.Native.Nat.{_-_, _<_}
-use native.Mathlib.Omega.{arith}
-use lib.ListN.{length}
+use Rattle.theory.proofs.Prelude.{_<_, _-_, arith, length, needs}
 use Rattle.saved_lines.proofs.Walks.{Written, none-written, all-written, went-left, went-right, next-inside}
-use borrow.Author.Needs.{needs}
 use Rattle.saved_lines.proofs.reach.write_outward.Statement.{statement}
 use Rattle.saved_lines.proofs.reach.write_outward.Tie as tie
 
@@ -96,19 +93,5 @@ pub write-outward-spec : {M : Type 1} → statement M
 write-outward-spec =
     tie.close
     (tie.spec
-    Inv-loop
-    μ-loop
-    sub-count
-    loop-holds
-    next-line-requires
-    cast-out
-    mul-out
-    slice-write-out
-    add-i
-    (λ c. search needs)
-    loop-again
-    add-right
-    (λ c. search needs)
-    loop-again-2
-    same-length
-    returns)
+    Inv-loop μ-loop sub-count loop-holds next-line-requires cast-out mul-out slice-write-out add-i (λ c. search needs) loop-again add-right
+    (λ c. search needs) loop-again-2 same-length returns)

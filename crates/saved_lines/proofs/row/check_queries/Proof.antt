@@ -1,6 +1,5 @@
 -- `saved_lines::row::check_queries` meets its contract.
-use borrow.Author.Needs.{needs}
-use mathlib.Core.Path.{sym, _∙_}
+use Rattle.theory.proofs.Prelude.{_∙_, sym, needs}
 use Rattle.saved_lines.proofs.RowChecks.{queries-bad, queries-descend, queries-passed}
 use Rattle.saved_lines.proofs.row.check_queries.Statement.{statement}
 use Rattle.saved_lines.proofs.row.check_queries.Tie as tie

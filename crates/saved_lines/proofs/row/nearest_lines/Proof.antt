@@ -1,11 +1,5 @@
 -- `saved_lines::row::nearest_lines` meets its contract.
-use Prim.Native.Nat.{ℕ, _≤_}
-use mathlib.Core.Path.{_≡_, refl, sym, ap, _∙_}
-use mathlib.Core.Bool.{true}
-use mathlib.Core.List.{List}
-use native.Mathlib.Omega.{arith}
-use lib.ListN.{length}
-use borrow.Author.Needs.{needs}
+use Rattle.theory.proofs.Prelude.{ℕ, _≤_, true, List, _∙_, ap, _≡_, sym, refl, arith, length, needs}
 use Rattle.format.specs.Given.{gives}
 use Rattle.saved_lines.specs.declared.Check.the-variants.{Passed}
 use Rattle.saved_lines.specs.Lines.{checked, Checked}
@@ -109,21 +103,5 @@ pub nearest-lines-spec : {M : Type 1} → statement M
 nearest-lines-spec =
     tie.close
     (tie.spec
-    returns
-    returns-2
-    (λ c κs. search needs)
-    (λ c. search needs)
-    (λ c. search needs)
-    (λ c. search needs)
-    (λ c κs. search needs)
-    (λ c. search needs)
-    (λ c. search needs)
-    (λ c. search needs)
-    walk-row-requires
-    cast-count
-    returns-3
-    returns-4
-    returns-5
-    returns-6
-    (λ c. search needs)
-    returns-7)
+    returns returns-2 (λ c κs. search needs) (λ c. search needs) (λ c. search needs) (λ c. search needs) (λ c κs. search needs) (λ c. search needs)
+    (λ c. search needs) (λ c. search needs) walk-row-requires cast-count returns-3 returns-4 returns-5 returns-6 (λ c. search needs) returns-7)

@@ -1,10 +1,5 @@
 -- `saved_lines::row::walk` meets its contract: each line that was passed is followed by a closer one.
-use borrow.Author.Needs.{needs}
-use Prim.Native.Nat.{suc, _≤_, _-_}
-use mathlib.Core.Path.{_≡_, sym, _∙_}
-use native.Mathlib.Omega.{arith}
-use borrow.Author.Tests.{not-true, not-false}
-use lib.ListN.{length}
+use Rattle.theory.proofs.Prelude.{_≤_, _-_, suc, _∙_, _≡_, sym, arith, length, needs, not-true, not-false}
 use Rattle.theory.proofs.Lists.{neighbours-more}
 use Rattle.saved_lines.proofs.Offsets.{finite-at}
 use Rattle.saved_lines.proofs.RowPatterns.{Nearing, stopped-at, ended-at}
@@ -49,20 +44,5 @@ pub walk-spec : {M : Type 1} → statement M
 walk-spec =
     tie.close
     (tie.spec
-    Inv-loop
-    μ-loop
-    loop-holds
-    (λ c. search needs)
-    (λ c. search needs)
-    (λ c. search needs)
-    (λ c. search needs)
-    (λ c. search needs)
-    is-nearer-requires
-    (λ c. search needs)
-    (λ c. search needs)
-    returns
-    (λ c. search needs)
-    (λ c. search needs)
-    loop-again
-    (λ c. search needs)
-    returns-2)
+    Inv-loop μ-loop loop-holds (λ c. search needs) (λ c. search needs) (λ c. search needs) (λ c. search needs) (λ c. search needs) is-nearer-requires
+    (λ c. search needs) (λ c. search needs) returns (λ c. search needs) (λ c. search needs) loop-again (λ c. search needs) returns-2)

@@ -1,9 +1,5 @@
 -- `saved_lines::row::walk_row` meets its contract: the rest of the list answers what is left of the row.
-use borrow.Author.Needs.{needs}
-use Prim.Native.Nat.{_≤_, _<_, _-_, _+_, _*_}
-use mathlib.Core.Path.{_≡_, refl, sym}
-use native.Mathlib.Omega.{arith}
-use lib.ListN.{length, getD}
+use Rattle.theory.proofs.Prelude.{_≤_, _<_, _+_, _*_, _-_, _≡_, sym, refl, arith, length, getD, needs}
 use Rattle.binary32.specs.Patterns.{patternValue, patternValues}
 use Rattle.binary32.proofs.PatternValues.{all-finite}
 use Rattle.saved_lines.proofs.RowLaws.{Left}
@@ -100,23 +96,6 @@ pub walk-row-spec : {M : Type 1} → statement M
 walk-row-spec =
     tie.close
     (tie.spec
-    Inv-loop
-    μ-loop
-    loop-holds
-    (λ c. search needs)
-    (λ c. search needs)
-    (λ c. search needs)
-    (λ c. search needs)
-    (λ c. search needs)
-    (λ c. search needs)
-    walk-requires
-    add-at
-    add-count
-    cast-out
-    (λ c. search needs)
-    (λ c. search needs)
-    (λ c. search needs)
-    (λ c. search needs)
-    loop-again
-    (λ c. search needs)
-    returns)
+    Inv-loop μ-loop loop-holds (λ c. search needs) (λ c. search needs) (λ c. search needs) (λ c. search needs) (λ c. search needs) (λ c. search needs)
+    walk-requires add-at add-count cast-out (λ c. search needs) (λ c. search needs) (λ c. search needs) (λ c. search needs) loop-again
+    (λ c. search needs) returns)

@@ -1,10 +1,5 @@
 -- `saved_lines::search::first_passing` meets its contract: all before `low` fail, all from `high` on pass.
-use borrow.Author.Needs.{needs}
-use Prim.Native.Nat.{ℕ, _≤_, _+_, _-_, _/_}
-use mathlib.Core.Path.{_≡_, sym, _∙_}
-use mathlib.Core.Bool.{true, false}
-use native.Mathlib.Omega.{arith}
-use lib.ListN.{length, getD}
+use Rattle.theory.proofs.Prelude.{ℕ, _≤_, _+_, _-_, _/_, true, false, _∙_, _≡_, sym, arith, length, getD, needs}
 use Rattle.saved_lines.specs.Searches.{passesOf}
 use Rattle.theory.proofs.Lists.{first-between}
 use Rattle.saved_lines.proofs.Offsets.{finite-at}
@@ -57,17 +52,5 @@ pub first-passing-spec : {M : Type 1} → statement M
 first-passing-spec =
     tie.close
     (tie.spec
-    Inv-loop
-    μ-loop
-    loop-holds
-    (λ c. search needs)
-    (λ c. search needs)
-    (λ c. search needs)
-    (λ c. search needs)
-    passes-requires
-    (λ c. search needs)
-    loop-again
-    (λ c. search needs)
-    (λ c. search needs)
-    loop-again-2
-    returns)
+    Inv-loop μ-loop loop-holds (λ c. search needs) (λ c. search needs) (λ c. search needs) (λ c. search needs) passes-requires (λ c. search needs)
+    loop-again (λ c. search needs) (λ c. search needs) loop-again-2 returns)

@@ -1,6 +1,6 @@
 -- `saved_lines::search::passes` meets its contract.
 use Rattle.saved_lines.proofs.Searches.{told-at-least, told-reaching, told-beyond, reaching-finite, beyond-finite}
-use borrow.Author.Needs.{needs}
+use Rattle.theory.proofs.Prelude.{needs}
 use Rattle.saved_lines.proofs.search.passes.Statement.{statement}
 use Rattle.saved_lines.proofs.search.passes.Tie as tie
 
@@ -37,12 +37,5 @@ pub passes-spec : {M : Type 1} → statement M
 passes-spec =
     tie.close
     (tie.spec
-    (λ c. search needs)
-    (λ c κs. search needs)
-    (λ c. search needs)
-    reaches-requires
-    (λ c. search needs)
-    reaches-requires-2
-    returns
-    returns-2
+    (λ c. search needs) (λ c κs. search needs) (λ c. search needs) reaches-requires (λ c. search needs) reaches-requires-2 returns returns-2
     returns-3)

@@ -1,9 +1,5 @@
 -- `units::neighbours::away` meets its contract.
-use borrow.Author.Needs.{needs}
-use mathlib.Core.Path.{_≡_, refl, sym, ap, ap₂, _∙_}
-use native.Mathlib.Numerals.{add-one}
-use native.Mathlib.Omega.{arith}
-use Prim.Native.Nat.{ℕ, suc, _+_, _*_, _^_}
+use Rattle.theory.proofs.Prelude.{ℕ, _+_, _^_, _*_, suc, _∙_, ap, _≡_, sym, refl, ap₂, add-one, arith, needs}
 use Rattle.format.proofs.Formats.{positional}
 use Rattle.number.specs.Numbers.{delivered}
 use Rattle.number.proofs.Membership.{Member, members, Known, known}
@@ -14,10 +10,10 @@ use Rattle.units.proofs.neighbours.away.Statement.{statement}
 use Rattle.units.proofs.neighbours.away.Tie as tie
 
 facts : (c : tie.Start) → Known (c .args .prepared)
-facts c = known (c .pre .0)
+facts c = known (c .pre .usable)
 
 inner : (c : tie.Start) → Member (c .args .prepared .format) (c .args .x)
-inner c = members _ (facts c .admits) (c .pre .1)
+inner c = members _ (facts c .admits) (c .pre .number)
 
 add-next : tie.Need-add-next
 add-next c =
@@ -37,7 +33,7 @@ last c = let s = c .before .before .before .before in sym (add-one (s .args .x .
 deliver-requires : tie.Need-deliver-requires
 deliver-requires c κs =
     let s = c .before .before .before .before in
-    (s .pre .0, canonical-as (facts s .full) refl (power-high (positional (facts s .admits)) _))
+    (s .pre .usable, canonical-as (facts s .full) refl (power-high (positional (facts s .admits)) _))
 
 returns : tie.Need-returns
 returns c =
@@ -53,7 +49,7 @@ deliver-requires-2 c κs =
     let p = c .before .before .before in
     let s = p .before in
     let a = facts s .admits in (
-      s .pre .0,
+      s .pre .usable,
       canonical-as (add-one (s .args .x .significand)) (p .place-of .ensures)
           (next-canonical (positional a) (member-canonical a (inner s)) (omega (arith, inner s .significand-high, c .if1 .left, facts s .top))),
     )

@@ -1,14 +1,9 @@
 -- `units::neighbours::predecessor` meets its contract.
-use borrow.Author.Needs.{needs}
-use mathlib.Core.Path.{_≡_, sym, _∙_}
-use mathlib.Core.List.{[], _∷_}
-use mathlib.Core.Logic.{inl, inr}
-use native.Mathlib.Omega.{arith}
+use Rattle.theory.proofs.Prelude.{[], _∷_, inl, inr, _∙_, _≡_, sym, arith, needs}
 use Rattle.format.specs.declared.Preparation.the-variants.{Ready}
-use Rattle.number.specs.Entry.{entered}
-use Rattle.number.proofs.Entries.{ends}
+use Rattle.number.specs.Checks.{entered}
+use Rattle.number.proofs.CheckLaws.{ends, passed, operand}
 use Rattle.units.specs.Neighbours.{predecessorOf}
-use Rattle.units.proofs.Entered.{inside}
 use Rattle.units.proofs.Sides.{away-below, toward-below}
 use Rattle.units.proofs.neighbours.predecessor.Statement.{statement}
 use Rattle.units.proofs.neighbours.predecessor.Tie as tie
@@ -17,25 +12,24 @@ ready : (c : tie.After-prepared) → let s = c .before .before .before .args in 
 ready c = sym (c .before .before .enter .ensures) ∙ c .prepared .given .1
 
 away-requires : tie.Need-away-requires
-away-requires c κs = inside _ _ (ready (c .before .before))
+away-requires c κs = operand (passed _ _ _ (ready (c .before .before)))
 
 returns : tie.Need-returns
 returns c = away-below _ _ (ready (c .before .before .before)) (inl (c .before .if1 .taken)) (c .away .ensures)
 
 away-requires-2 : tie.Need-away-requires-2
-away-requires-2 c κs = inside _ _ (ready (c .before .before .before .before))
+away-requires-2 c κs = operand (passed _ _ _ (ready (c .before .before .before .before)))
 
 returns-2 : tie.Need-returns-2
 returns-2 c = away-below _ _ (ready (c .before .before .before .before .before)) (inr (c .before .if2 .taken)) (c .away2 .ensures)
 
 toward-requires : tie.Need-toward-requires
 toward-requires c κs =
-    let i = inside _ _ (ready (c .before .before .before .before)) in
-    (i .0, i .1, omega (arith, c .if2 .left))
+    (operand (passed _ _ _ (ready (c .before .before .before .before))), omega (arith, c .if2 .left))
 
 returns-3 : tie.Need-returns-3
 unfolding predecessorOf
-returns-3 c = ends _ _ _ _ _ (sym (c .before .before .before .enter .ensures) ∙ c .before .why .given .1)
+returns-3 c = ends _ _ _ _ (sym (c .before .before .before .enter .ensures) ∙ c .before .why .given .1)
 
 returns-4 : tie.Need-returns-4
 returns-4 c =
@@ -46,13 +40,5 @@ pub predecessor-spec : {M : Type 1} → statement M
 predecessor-spec =
     tie.close
     (tie.spec
-    (λ c κs. search needs)
-    (λ c. search needs)
-    (λ c. search needs)
-    away-requires
-    returns
-    away-requires-2
-    returns-2
-    toward-requires
-    returns-3
+    (λ c κs. search needs) (λ c. search needs) (λ c. search needs) away-requires returns away-requires-2 returns-2 toward-requires returns-3
     returns-4)

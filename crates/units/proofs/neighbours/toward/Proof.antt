@@ -1,9 +1,5 @@
 -- `units::neighbours::toward` meets its contract.
-use borrow.Author.Needs.{needs}
-use mathlib.Core.Path.{_≡_, refl, sym, ap, ap₂, _∙_}
-use mathlib.Core.Logic.{_⊎_, inl, inr}
-use native.Mathlib.Omega.{arith}
-use Prim.Native.Nat.{ℕ, _*_, _-_, _^_, _<_}
+use Rattle.theory.proofs.Prelude.{ℕ, _<_, _^_, _*_, _-_, inl, inr, _⊎_, _∙_, ap, _≡_, sym, refl, ap₂, arith, needs}
 use Rattle.format.proofs.Formats.{positional}
 use Rattle.number.specs.Numbers.{placeOf, delivered}
 use Rattle.number.proofs.Membership.{Member, members, Known, known}
@@ -15,10 +11,10 @@ use Rattle.units.proofs.neighbours.toward.Statement.{statement}
 use Rattle.units.proofs.neighbours.toward.Tie as tie
 
 facts : (c : tie.Start) → Known (c .args .prepared)
-facts c = known (c .pre .0)
+facts c = known (c .pre .0 .usable)
 
 inner : (c : tie.Start) → Member (c .args .prepared .format) (c .args .x)
-inner c = members _ (facts c .admits) (c .pre .1)
+inner c = members _ (facts c .admits) (c .pre .0 .number)
 
 -- where the step below is the step above: at the least place, and between powers
 abbrev Level : tie.Start → Type 0
@@ -39,7 +35,7 @@ deliver-requires : tie.Need-deliver-requires
 deliver-requires c κs =
     let s = c .before .before in
     let a = facts s .admits in
-    (s .pre .0, canonical-as refl (c .before .place-of .ensures) (before-canonical (positional a) (member-canonical a (inner s)) (s .pre .2) (least c)))
+    (s .pre .0 .usable, canonical-as refl (c .before .place-of .ensures) (before-canonical (positional a) (member-canonical a (inner s)) (s .pre .1) (least c)))
 
 returns : tie.Need-returns
 returns c =
@@ -48,7 +44,7 @@ returns c =
     let f = s .args .prepared .format in
     c .deliver .ensures
     ∙ ap (delivered f (s .args .negative))
-    (ap (λ (k : ℕ). (s .args .x .significand - 1) * f .base ^ k) (p .place-of .ensures) ∙ before-written (facts s .admits) (inner s) (s .pre .2) (least (c .before)))
+    (ap (λ (k : ℕ). (s .args .x .significand - 1) * f .base ^ k) (p .place-of .ensures) ∙ before-written (facts s .admits) (inner s) (s .pre .1) (least (c .before)))
 
 sub-deliver-2 : tie.Need-sub-deliver-2
 sub-deliver-2 c =
@@ -64,7 +60,7 @@ deliver-requires-2 c κs =
     let e = c .before .before .before in
     let s = e .before .before in
     let a = facts s .admits in (
-      s .pre .0,
+      s .pre .0 .usable,
       canonical-as (ap (λ (t : ℕ). t - 1) (facts s .top)) (ap (λ (k : ℕ). k - 1) (e .before .place-of .ensures))
           (below-canonical (positional a) (member-canonical a (inner s)) (power c) (omega (arith, e .before .place-of .ensures, e .if1 .left))),
     )
@@ -85,7 +81,7 @@ deliver-requires-3 c κs =
     let p = c .before .before .before in
     let s = p .before in
     let a = facts s .admits in
-    (s .pre .0, canonical-as refl (p .place-of .ensures) (before-canonical (positional a) (member-canonical a (inner s)) (s .pre .2) (between c)))
+    (s .pre .0 .usable, canonical-as refl (p .place-of .ensures) (before-canonical (positional a) (member-canonical a (inner s)) (s .pre .1) (between c)))
 
 returns-3 : tie.Need-returns-3
 returns-3 c =
@@ -95,20 +91,11 @@ returns-3 c =
     c .deliver3 .ensures
     ∙ ap (delivered f (s .args .negative))
     (ap (λ (k : ℕ). (s .args .x .significand - 1) * f .base ^ k) (p .place-of .ensures)
-    ∙ before-written (facts s .admits) (inner s) (s .pre .2) (between (c .before)))
+    ∙ before-written (facts s .admits) (inner s) (s .pre .1) (between (c .before)))
 
 pub toward-spec : {M : Type 1} → statement M
 toward-spec =
     tie.close
     (tie.spec
-    (λ c κs. search needs)
-    (λ c. search needs)
-    deliver-requires
-    returns
-    sub-deliver-2
-    (λ c. search needs)
-    deliver-requires-2
-    returns-2
-    (λ c. search needs)
-    deliver-requires-3
-    returns-3)
+    (λ c κs. search needs) (λ c. search needs) deliver-requires returns sub-deliver-2 (λ c. search needs) deliver-requires-2 returns-2
+    (λ c. search needs) deliver-requires-3 returns-3)

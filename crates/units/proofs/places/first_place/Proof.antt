@@ -1,10 +1,5 @@
 -- `units::places::first_place` meets its contract.
-use borrow.Author.Needs.{needs}
-use mathlib.Core.Path.{refl, sym, ap, _∙_}
-use native.Mathlib.Omega.{arith}
-use Prim.Native.Nat.{ℕ}
-use mir.Syntax.{w32}
-use mir.Val.{SFits}
+use Rattle.theory.proofs.Prelude.{ℕ, _∙_, ap, sym, refl, arith, w32, SFits, needs}
 use Rattle.theory.specs.Units.{ufp}
 use Rattle.format.proofs.Signed.{back}
 use Rattle.number.proofs.Values.{same-number}
@@ -19,16 +14,16 @@ e-fits c = search needs
 leading-power-requires : tie.Need-leading-power-requires
 leading-power-requires c κs =
     let s = c .before in
-    let k = known (s .pre .0) in
-    (usable-scaled (s .pre .0), omega (arith, k .top, members _ (k .admits) (s .pre .1) .significand-high))
+    let k = known (s .pre .usable) in
+    (usable-scaled (s .pre .usable), omega (arith, k .top, members _ (k .admits) (s .pre .number) .significand-high))
 
 returns : tie.Need-returns
 returns c =
     let s = c .before .before in
-    let k = known (s .pre .0) in
+    let k = known (s .pre .usable) in
     same-number refl (c .leading-power .ensures ∙ ap (λ (b : ℕ). ufp b (s .args .x .significand)) (k .base))
     (back (e-fits s))
-    ∙ sym (first-written (k .admits) (members _ (k .admits) (s .pre .1)))
+    ∙ sym (first-written (k .admits) (members _ (k .admits) (s .pre .number)))
 
 pub first-place-spec : {M : Type 1} → statement M
 first-place-spec = tie.close (tie.spec leading-power-requires returns)

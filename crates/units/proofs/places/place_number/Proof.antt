@@ -1,6 +1,5 @@
 -- `units::places::place_number` meets its contract.
-use borrow.Author.Needs.{needs}
-use mathlib.Core.Path.{_≡_, sym, ap, _∙_}
+use Rattle.theory.proofs.Prelude.{_∙_, ap, _≡_, sym, needs}
 use Rattle.number.specs.declared.Number.{Number}
 use Rattle.units.specs.declared.places.Place.{Place}
 use Rattle.units.specs.Places.{placeNumber}
@@ -25,12 +24,5 @@ pub place-number-spec : {M : Type 1} → statement M
 place-number-spec =
     tie.close
     (tie.spec
-    (λ c. search needs)
-    (λ c κs. search needs)
-    (λ c. search needs)
-    (λ c κs. search needs)
-    (λ c. search needs)
-    (λ c κs. search needs)
-    returns
-    returns-2
+    (λ c. search needs) (λ c κs. search needs) (λ c. search needs) (λ c κs. search needs) (λ c. search needs) (λ c κs. search needs) returns returns-2
     returns-3)

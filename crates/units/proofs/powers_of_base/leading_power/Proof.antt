@@ -1,8 +1,5 @@
 -- `units::powers_of_base::leading_power` meets its contract: the loop climbs through the powers of the base that are at most m.
-use Prim.Native.Nat.{ℕ, suc, _^_, _*_, _-_, _/_, _≤_, _<_}
-use mathlib.Core.Path.{_≡_, sym, ap, subst, _∙_}
-use native.Mathlib.Nat.{pow-zero, pow-suc, mul-comm, le-div-iff-mul-le, div-lt-iff-lt-mul, mul-le-mul-left}
-use native.Mathlib.Omega.{arith}
+use Rattle.theory.proofs.Prelude.{ℕ, _≤_, _<_, _^_, _*_, _-_, suc, _/_, _∙_, ap, _≡_, sym, subst, mul-le-mul-left, pow-zero, div-lt-iff-lt-mul, pow-suc, le-div-iff-mul-le, mul-comm, arith}
 use Rattle.theory.specs.Units.{ufp}
 use Rattle.theory.proofs.Powers.{pow-pos, pow-pred}
 use Rattle.theory.proofs.Units.{ufp-unique}

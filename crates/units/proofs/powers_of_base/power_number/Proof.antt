@@ -1,10 +1,5 @@
 -- `units::powers_of_base::power_number` meets its contract.
-use borrow.Author.Needs.{needs}
-use mathlib.Core.Path.{_≡_, sym, ap, ap₂, subst, _∙_}
-use mathlib.Core.Bool.{false}
-use Prim.Native.Nat.{ℕ, _+_, _*_, _-_, _^_, _≤_, _<_}
-use native.Mathlib.Nat.{mul-one, pow-zero}
-use native.Mathlib.Omega.{arith}
+use Rattle.theory.proofs.Prelude.{ℕ, _≤_, _<_, _+_, _^_, _*_, _-_, false, _∙_, ap, _≡_, sym, ap₂, subst, pow-zero, mul-one, arith, needs}
 use Rattle.theory.specs.Wide.{Canonical}
 use Rattle.theory.proofs.Powers.{pow-mono}
 use Rattle.format.specs.declared.Scale.{Scale}

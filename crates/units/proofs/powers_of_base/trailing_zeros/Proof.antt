@@ -1,9 +1,5 @@
 -- `units::powers_of_base::trailing_zeros` meets its contract: the loop takes the zeros off one by one.
-use Prim.Native.Nat.{ℕ, zero, suc, _^_, _+_, _*_, _-_, _/_, _%_, _≤_, _<_}
-use mathlib.Core.Path.{_≡_, refl, sym, ap, subst, _∙_}
-use native.Mathlib.Nat.{pow-zero, pow-suc, mul-one, div-add-mod', mul-le-mul-left, mul-le-mul-right}
-use native.Mathlib.Numerals.{add-one}
-use native.Mathlib.Omega.{arith}
+use Rattle.theory.proofs.Prelude.{ℕ, _≤_, _<_, _+_, _^_, _*_, _-_, suc, zero, _%_, _/_, _∙_, ap, _≡_, sym, refl, subst, mul-le-mul-right, mul-le-mul-left, pow-zero, div-add-mod', pow-suc, mul-one, add-one, arith}
 use Rattle.theory.specs.Units.{zeros}
 use Rattle.theory.proofs.Powers.{pow-pos, below-pow}
 use Rattle.theory.proofs.Multiples.{Multiple, multiple-mod, multiple-cancel}

@@ -1,8 +1,5 @@
 -- `wide::long_division::align` meets its contract: the divisor is d times the power `place`; before a turn it is at most n.
-use Prim.Native.Nat.{ℕ, _^_, _*_, _-_, _≤_, _<_}
-use mathlib.Core.Path.{_≡_}
-use native.Mathlib.Nat.{mul-le-mul-left, mul-lt-mul-of-pos-right}
-use native.Mathlib.Omega.{arith}
+use Rattle.theory.proofs.Prelude.{ℕ, _≤_, _<_, _^_, _*_, _-_, _≡_, mul-le-mul-left, mul-lt-mul-of-pos-right, arith}
 use Rattle.wide.proofs.Digits.{align-first, align-next, align-few}
 use Rattle.wide.proofs.long_division.align.Statement.{statement}
 use Rattle.wide.proofs.long_division.align.Tie as tie
@@ -56,11 +53,4 @@ pub align-spec : {M : Type 1} → statement M
 align-spec =
     tie.close
     (tie.spec
-    Inv-loop
-    μ-loop
-    loop-holds
-    mul-divisor
-    add-place
-    loop-less
-    loop-again
-    returns)
+    Inv-loop μ-loop loop-holds mul-divisor add-place loop-less loop-again returns)

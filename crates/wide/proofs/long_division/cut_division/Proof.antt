@@ -1,10 +1,6 @@
 -- `wide::long_division::cut_division` meets its contract: at the first two ends the quotient is the steps of the cut; where nothing remains
 -- the value is a whole number, and its cut is known.
-use borrow.Author.Needs.{needs}
-use Prim.Native.Nat.{_*_, _^_, _≤_}
-use mathlib.Core.Path.{_≡_, sym, ap, _∙_}
-use native.Mathlib.Nat.{mul-le-mul-left}
-use native.Mathlib.Omega.{arith}
+use Rattle.theory.proofs.Prelude.{_≤_, _^_, _*_, _∙_, ap, _≡_, sym, mul-le-mul-left, arith, needs}
 use Rattle.theory.specs.declared.Location.{Location}
 use Rattle.rounding.specs.Cut.{cutOf}
 use Rattle.rounding.proofs.Scales.{positional}

@@ -1,9 +1,5 @@
 -- `wide::long_division::cut_fraction` meets its contract, from zero, from below the lowest place, and from the digits that were taken.
-use borrow.Author.Needs.{needs}
-use Prim.Native.Nat.{ℕ, _*_, _^_, _≤_}
-use mathlib.Core.Path.{sym, ap, _∙_}
-use native.Mathlib.Nat.{mul-pos}
-use native.Mathlib.Omega.{arith}
+use Rattle.theory.proofs.Prelude.{ℕ, _≤_, _^_, _*_, _∙_, ap, sym, mul-pos, arith, needs}
 use Rattle.theory.proofs.Powers.{pow-pos}
 use Rattle.rounding.specs.Cut.{cutOf}
 use Rattle.rounding.proofs.Scales.{positional}
@@ -50,10 +46,4 @@ pub cut-fraction-spec : {M : Type 1} → statement M
 cut-fraction-spec =
     tie.close
     (tie.spec
-    returns
-    (λ c κs. search needs)
-    (λ c. search needs)
-    returns-2
-    (λ c κs. search needs)
-    cut-division-requires
-    returns-3)
+    returns (λ c κs. search needs) (λ c. search needs) returns-2 (λ c κs. search needs) cut-division-requires returns-3)

@@ -1,9 +1,7 @@
 -- `wide::long_division::fraction` meets its contract: the cut of the fraction, delivered.
-use Prim.Native.Nat.{_*_, _^_, _≤_}
-use native.Mathlib.Nat.{mul-pos}
-use native.Mathlib.Omega.{arith}
+use Rattle.theory.proofs.Prelude.{_≤_, _^_, _*_, mul-pos, arith}
 use Rattle.theory.proofs.Powers.{pow-pos}
-use Rattle.wide.proofs.Deliveries.{steps-fit}
+use Rattle.wide.proofs.Finishes.{steps-fit}
 use Rattle.wide.proofs.Cuts.{fraction-place}
 use Rattle.wide.proofs.long_division.fraction.Statement.{statement}
 use Rattle.wide.proofs.long_division.fraction.Tie as tie
@@ -14,8 +12,8 @@ size c = mul-pos (c .pre .1) (pow-pos (c .pre .0 .base-least) (c .args .down))
 cut-fraction-requires : tie.Need-cut-fraction-requires
 cut-fraction-requires c κs = c .pre
 
-deliver-requires : tie.Need-deliver-requires
-deliver-requires c κs =
+finish-requires : tie.Need-finish-requires
+finish-requires c κs =
     let s = c .before in
     let p = s .pre in
     let a = s .args in
@@ -25,7 +23,7 @@ deliver-requires c κs =
 returns : tie.Need-returns
 returns c =
     let s = c .before .before in
-    c .deliver .ensures _ _ (size s) (c .before .cut-fraction .ensures)
+    c .finish .ensures _ _ (size s) (c .before .cut-fraction .ensures)
 
 pub fraction-spec : {M : Type 1} → statement M
-fraction-spec = tie.close (tie.spec cut-fraction-requires deliver-requires returns)
+fraction-spec = tie.close (tie.spec cut-fraction-requires finish-requires returns)

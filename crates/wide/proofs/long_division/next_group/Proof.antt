@@ -1,9 +1,5 @@
 -- `wide::long_division::next_group` meets its contract.
-use borrow.Author.Needs.{needs}
-use borrow.Author.Tests.{leb-true}
-use mathlib.Core.Path.{sym}
-use native.Mathlib.Nat.{mul-le-mul, mul-le-mul-right}
-use native.Mathlib.Omega.{arith}
+use Rattle.theory.proofs.Prelude.{sym, mul-le-mul-right, mul-le-mul, arith, needs, leb-true}
 use Rattle.rounding.proofs.Scales.{full-top, full-most, power-one}
 use Rattle.wide.proofs.long_division.next_group.Statement.{statement}
 use Rattle.wide.proofs.long_division.next_group.Tie as tie
@@ -56,10 +52,4 @@ pub next-group-spec : {M : Type 1} → statement M
 next-group-spec =
     tie.close
     (tie.spec
-    (λ c. search needs)
-    (λ c. search needs)
-    mul-next
-    returns
-    (λ c. search needs)
-    returns-2
-    returns-3)
+    (λ c. search needs) (λ c. search needs) mul-next returns (λ c. search needs) returns-2 returns-3)

@@ -1,10 +1,7 @@
 -- `wide::long_division::take_digits` meets its contract. The invariant: the digits down to `place` have been taken, and the
 -- quotient has at most the digits of the format. What the loop yields at each of its three ends is the invariant with the test that
 -- ended it.
-use borrow.Author.Needs.{needs}
-use Prim.Native.Nat.{ℕ, _^_, _*_, _≤_, _<_}
-use native.Mathlib.Nat.{mul-le-mul-left, mul-le-mul-right}
-use native.Mathlib.Omega.{arith}
+use Rattle.theory.proofs.Prelude.{ℕ, _≤_, _<_, _^_, _*_, mul-le-mul-right, mul-le-mul-left, arith, needs}
 use Rattle.theory.proofs.Powers.{pow-pos}
 use Rattle.wide.specs.declared.long_division.Division.{Division}
 use Rattle.wide.specs.Division.{Taken, Ended, Divided, all-digits, lowest-place, no-rest}
@@ -121,20 +118,5 @@ pub take-digits-spec : {M : Type 1} → statement M
 take-digits-spec =
     tie.close
     (tie.spec
-    Inv-loop
-    μ-loop
-    loop-holds
-    next-group-requires
-    cast-lowered
-    mul-lowered
-    div-digits
-    cast-digits
-    mul-quotient
-    add-quotient
-    rem-remainder
-    sub-place
-    loop-less
-    loop-again
-    returns
-    returns-2
-    returns-3)
+    Inv-loop μ-loop loop-holds next-group-requires cast-lowered mul-lowered div-digits cast-digits mul-quotient add-quotient rem-remainder sub-place
+    loop-less loop-again returns returns-2 returns-3)

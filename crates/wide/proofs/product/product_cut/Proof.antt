@@ -1,10 +1,6 @@
 -- `wide::product::product_cut` meets its contract: both cuts are that of the value.
-use Prim.Native.Nat.{ℕ, _*_}
-use mathlib.Core.Path.{ap}
-use native.Mathlib.Nat.{mul-le-mul}
-use native.Mathlib.Omega.{arith}
+use Rattle.theory.proofs.Prelude.{ℕ, _*_, ap, mul-le-mul, arith, needs}
 use Rattle.rounding.proofs.Scales.{full-unit, full-most, full-top, square, square-most}
-use borrow.Author.Needs.{needs}
 use Rattle.wide.proofs.product.product_cut.Statement.{statement}
 use Rattle.wide.proofs.product.product_cut.Tie as tie
 

@@ -1,7 +1,5 @@
 -- `wide::quotient::divide_shifted` meets its contract: one division.
-use borrow.Author.Needs.{needs}
-use native.Mathlib.Nat.{mul-le-mul-right}
-use native.Mathlib.Omega.{arith}
+use Rattle.theory.proofs.Prelude.{mul-le-mul-right, arith, needs}
 use Rattle.rounding.proofs.Scales.{square, square-most}
 use Rattle.wide.proofs.Quotients.{leading-pos}
 use Rattle.wide.proofs.quotient.divide_shifted.Statement.{statement}

@@ -1,9 +1,5 @@
 -- `wide::quotient::locate_under` meets its contract.
-use borrow.Author.Needs.{needs}
-use Prim.Native.Nat.{ℕ, _*_, _≤_}
-use mathlib.Core.Path.{sym, ap, _∙_}
-use native.Mathlib.Nat.{mul-le-mul, mul-pos}
-use native.Mathlib.Omega.{arith}
+use Rattle.theory.proofs.Prelude.{ℕ, _≤_, _*_, _∙_, ap, sym, mul-pos, mul-le-mul, arith, needs}
 use Rattle.format.specs.Formats.{greatestPower}
 use Rattle.rounding.specs.Location.{located}
 use Rattle.rounding.proofs.Scales.{power-at, power-one}

@@ -1,8 +1,5 @@
 -- `wide::quotient::normalise` meets its contract.
-use borrow.Author.Needs.{needs}
-use Prim.Native.Nat.{_*_, _-_, _≤_}
-use native.Mathlib.Nat.{mul-le-mul-left}
-use native.Mathlib.Omega.{arith}
+use Rattle.theory.proofs.Prelude.{_≤_, _*_, _-_, mul-le-mul-left, arith, needs}
 use Rattle.wide.specs.Quotient.{Shifted}
 use Rattle.wide.proofs.Quotients.{digits-fit, shifted}
 use Rattle.wide.proofs.quotient.normalise.Statement.{statement}

@@ -1,18 +1,12 @@
 -- `wide::quotient::quotient` meets its contract: the cut is that of the exact quotient.
-use borrow.Author.Needs.{needs}
-use Prim.Native.Nat.{ℕ, _^_, _+_, _*_, _≤_, _<_}
-use mathlib.Core.Path.{_≡_, sym, ap, _∙_}
-use mathlib.Core.Bool.{xor}
-use native.Mathlib.Nat.{mul-pos}
-use native.Mathlib.Omega.{arith}
+use Rattle.theory.proofs.Prelude.{ℕ, _≤_, _<_, _+_, _^_, _*_, xor, _∙_, ap, _≡_, mul-pos, arith, needs}
 use Rattle.theory.proofs.Powers.{pow-pos}
 use Rattle.rounding.specs.Cut.{cutOf}
 use Rattle.rounding.proofs.Scales.{positional, digits-most}
 use Rattle.wide.specs.Operand.{sizeOf}
-use Rattle.wide.specs.Delivery.{delivered}
-use Rattle.wide.specs.Quotient.{divided}
+use Rattle.wide.proofs.Sizes.{shifted-size}
 use Rattle.wide.proofs.Quotients.{quotient-exact}
-use Rattle.wide.proofs.Deliveries.{delivered-zero}
+use Rattle.wide.proofs.Finishes.{steps-fit, place-fit, rounds-zero}
 use Rattle.wide.proofs.quotient.quotient.Statement.{statement}
 use Rattle.wide.proofs.quotient.quotient.Tie as tie
 
@@ -28,16 +22,15 @@ positive c =
     mul-pos (mul-pos (c .pre .3) (pow-pos b (c .args .y .place))) (pow-pos b (c .args .down))
 
 returns : tie.Need-returns
-unfolding divided
+unfolding xor
 returns c =
-    let s = c .before .before in
+    let s = c .before .before .before .before in
     let a = s .args in
     let none : numerator s ≡ 0 = ap (λ (m : ℕ). m * a .scale .base ^ a .x .place * a .scale .base ^ a .up) (c .if1 .taken) ∙ omega arith in
-    sym (ap (λ (n : ℕ). delivered (a .scale .base) (a .scale .digits) (a .direction) (xor (a .x .negative) (a .y .negative)) n (denominator s)) none
-    ∙ delivered-zero (positional (s .pre .0)) (a .direction) (xor (a .x .negative) (a .y .negative)) (denominator s) (positive s))
+    rounds-zero (positional (s .pre .0)) (a .direction) _ (denominator s) (positive s) none
 
 abbrev start : tie.After-normalise2 → tie.Start
-start c = c .before .before .before .before
+start c = c .before .before .before .before .before .before
 
 high-most : (c : tie.After-normalise2) → start c .args .x .place + start c .args .up + c .normalise2 .result .shift < 2 ^ 30
 high-most c = let p = start c .pre in omega (arith, p .1 .place-most, p .4, c .normalise2 .ensures .shift-most, digits-most (p .0))
@@ -68,22 +61,25 @@ exact c =
     c .quotient-cut .ensures
     ∙ quotient-exact (s .pre .0) (a .x .place) (a .y .place) (a .up) (a .down) (b .before .normalise .ensures) (b .normalise2 .ensures) (s .pre .3)
 
-round-quotient-requires : tie.Need-round-quotient-requires
-round-quotient-requires c κs =
-    let p = start (normal c) .pre in
-    (p .0, p .1, p .3, p .4, exact c)
+finish-requires : tie.Need-finish-requires
+finish-requires c κs =
+    let s = start (normal c) in
+    let p = s .pre in
+    let e = exact c in (
+      p .0,
+      steps-fit (p .0) (numerator s) (denominator s) (positive s) e,
+      omega (arith, place-fit (p .0) (numerator s) (denominator s) (positive s) e (2 ^ 30) (shifted-size (positional (p .0)) (s .args .x) (p .1 .canonical) (s .args .up) (2 ^ 30) (omega (arith, p .1 .place-most, p .4)))),
+    )
+
+returns-2 : tie.Need-returns-2
+unfolding xor
+returns-2 c =
+    let s = start (normal (c .before)) in
+    c .finish .ensures (numerator s) (denominator s) (positive s) (exact (c .before))
 
 pub quotient-spec : {M : Type 1} → statement M
 quotient-spec =
     tie.close
     (tie.spec
-    returns
-    (λ c κs. search needs)
-    (λ c κs. search needs)
-    (λ c. search needs)
-    add-high-2
-    (λ c. search needs)
-    add-low-2
-    quotient-cut-requires
-    round-quotient-requires
-    (λ c. search needs))
+    returns (λ c κs. search needs) (λ c κs. search needs) (λ c. search needs) add-high-2 (λ c. search needs) add-low-2 quotient-cut-requires
+    finish-requires returns-2)

@@ -1,10 +1,5 @@
 -- `wide::quotient::quotient_cut` meets its contract: by how far the digits reach.
-use borrow.Author.Needs.{needs}
-use Prim.Native.Nat.{ℕ, _^_, _+_, _*_, _-_, _≤_}
-use mathlib.Core.Path.{_≡_, sym, ap, subst, _∙_}
-use mathlib.Core.Logic.{⊎-elim}
-use native.Mathlib.Nat.{mul-le-mul-left}
-use native.Mathlib.Omega.{arith}
+use Rattle.theory.proofs.Prelude.{ℕ, _≤_, _+_, _^_, _*_, _-_, ⊎-elim, _∙_, ap, _≡_, sym, subst, mul-le-mul-left, arith, needs}
 use Rattle.theory.proofs.Powers.{pow-mono}
 use Rattle.theory.specs.declared.Location.{Location}
 use Rattle.rounding.specs.Cut.{dropped}
@@ -97,15 +92,5 @@ pub quotient-cut-spec : {M : Type 1} → statement M
 quotient-cut-spec =
     tie.close
     (tie.spec
-    (λ c. search needs)
-    add-if2
-    (λ c. search needs)
-    (λ c. search needs)
-    divide-shifted-requires
-    returns
-    power-requires
-    divide-shifted-requires-2
-    returns-2
-    (λ c. search needs)
-    (λ c κs. search needs)
-    returns-3)
+    (λ c. search needs) add-if2 (λ c. search needs) (λ c. search needs) divide-shifted-requires returns power-requires divide-shifted-requires-2
+    returns-2 (λ c. search needs) (λ c κs. search needs) returns-3)

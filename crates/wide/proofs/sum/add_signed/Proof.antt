@@ -1,11 +1,5 @@
 -- `wide::sum::add_signed` meets its contract: by the signs and the order.
-use borrow.Author.Needs.{needs}
-use Prim.Native.Nat.{ℕ, _*_, _≤_}
-use mathlib.Core.Path.{_≡_, refl, sym, ap, _∙_}
-use mathlib.Core.Bool.{Bool, true, false, Bool·beq}
-use mathlib.Core.Logic.{⊎-elim}
-use native.Mathlib.Nat.{mul-le-mul-right}
-use native.Mathlib.Omega.{arith}
+use Rattle.theory.proofs.Prelude.{ℕ, _≤_, _*_, true, false, Bool, Bool·beq, ⊎-elim, _∙_, ap, _≡_, sym, refl, mul-le-mul-right, arith, needs}
 use Rattle.theory.specs.Signed.{signed}
 use Rattle.theory.proofs.Tests.{never}
 use Rattle.wide.specs.Sum.{Adds}

@@ -1,8 +1,5 @@
 -- `wide::sum::below_power` meets its contract.
-use borrow.Author.Needs.{needs}
-use Prim.Native.Nat.{ℕ, _^_, _-_}
-use mathlib.Core.Path.{_≡_, sym, ap, _∙_}
-use native.Mathlib.Omega.{arith}
+use Rattle.theory.proofs.Prelude.{ℕ, _^_, _-_, _∙_, ap, _≡_, sym, arith, needs}
 use Rattle.theory.proofs.Powers.{pow-half}
 use Rattle.rounding.specs.Location.{located}
 use Rattle.rounding.proofs.Locations.{located-above}

@@ -1,8 +1,6 @@
 -- `wide::sum::near_cut` meets its contract: both cuts are that of the value.
-use native.Mathlib.Nat.{mul-le-mul}
-use native.Mathlib.Omega.{arith}
+use Rattle.theory.proofs.Prelude.{mul-le-mul, arith, needs}
 use Rattle.rounding.proofs.Scales.{unit-most, full-most, square, square-most}
-use borrow.Author.Needs.{needs}
 use Rattle.wide.proofs.sum.near_cut.Statement.{statement}
 use Rattle.wide.proofs.sum.near_cut.Tie as tie
 

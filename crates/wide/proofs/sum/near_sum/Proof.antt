@@ -1,9 +1,9 @@
 -- `wide::sum::near_sum` meets its contract: the sum in units of the lower place.
-use borrow.Author.Needs.{needs}
-use Prim.Native.Nat.{_+_, _*_, _^_, _<_}
-use native.Mathlib.Omega.{arith}
+use Rattle.theory.proofs.Prelude.{_<_, _+_, _^_, _*_, arith, ℤ, _+ℤ_, needs}
 use Rattle.rounding.proofs.Scales.{square, square-most}
-use Rattle.wide.proofs.Sums.{near-most, near-below, near-sum-cut}
+use Rattle.wide.specs.Operand.{valueOf}
+use Rattle.wide.specs.Sum.{SumCut}
+use Rattle.wide.proofs.Sums.{near-most, near-below, near-sum-cut, sum-finishes, sum-rounds}
 use Rattle.wide.proofs.sum.near_sum.Statement.{statement}
 use Rattle.wide.proofs.sum.near_sum.Tie as tie
 
@@ -30,21 +30,26 @@ near-cut-requires c κs =
       p .2 .place-most,
     )
 
-returns : tie.Need-returns
-returns c =
-    let b = c .before .before .before .before in
-    let s = b .before in
+abbrev start : tie.After-near-cut → tie.Start
+start c = c .before .before .before .before .before
+
+abbrev exact : tie.Start → ℤ
+exact s = valueOf (s .args .scale .base) (s .args .x) +ℤ valueOf (s .args .scale .base) (s .args .y)
+
+cut : (c : tie.After-near-cut) → SumCut (start c .args .scale) (exact (start c)) (c .before .add-signed .result .negative) (c .near-cut .result)
+cut c =
+    let s = start c in
     let p = s .pre in
-    near-sum-cut (p .0) (p .1) (p .2) (s .args .gap) (p .3) (b .power .ensures) (c .before .add-signed .ensures) (c .near-cut .ensures)
+    near-sum-cut (p .0) (p .1) (p .2) (s .args .gap) (p .3) (c .before .before .before .before .power .ensures) (c .before .add-signed .ensures) (c .near-cut .ensures)
+
+finish-requires : tie.Need-finish-requires
+finish-requires c κs = let s = start c in sum-finishes (s .pre .0) (s .pre .1) (s .pre .2) (cut c)
+
+returns : tie.Need-returns
+returns c = let s = start (c .before) in sum-rounds (exact s) (cut (c .before)) (c .finish .ensures)
 
 pub near-sum-spec : {M : Type 1} → statement M
 near-sum-spec =
     tie.close
     (tie.spec
-    (λ c κs. search needs)
-    (λ c. search needs)
-    mul-high
-    (λ c. search needs)
-    add-signed-requires
-    near-cut-requires
-    returns)
+    (λ c κs. search needs) (λ c. search needs) mul-high (λ c. search needs) add-signed-requires near-cut-requires finish-requires returns)

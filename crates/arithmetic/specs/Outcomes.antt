@@ -1,0 +1,23 @@
+-- What an operation gives, in the paper's words: the exact result, rounded once, or refusal 5 where that is above the greatest number.
+use Prim.Native.Nat.{ℕ, _≤_, _<_}
+use mathlib.Core.Path.{_≡_}
+use mathlib.Core.Bool.{true}
+use lib.IntN.{ℤ, natAbs}
+use Rattle.theory.specs.declared.Direction.{Direction}
+use Rattle.theory.specs.Signed.{roundZ}
+use Rattle.format.specs.declared.Format.{Format}
+use Rattle.format.specs.Given.{Given, gives, refused}
+use Rattle.number.specs.declared.Number.{Number}
+use Rattle.number.specs.Numbers.{member, value, greatest}
+
+-- x is a number of the format, and its value is N / D units, rounded in the direction d
+pub record RoundedNumber (f : Format) (d : Direction) (N : ℤ) (D : ℕ) (x : Number) : Type 0 where
+  pub divisor : 1 ≤ D
+  pub member : member f x ≡ true
+  pub value : value f x ≡ roundZ (f .base) (f .digits) d N D
+  pub within : natAbs (roundZ (f .base) (f .digits) d N D) ≤ greatest f
+
+-- that number, or 5 exactly where the rounded magnitude is above the greatest number
+pub data Outcome (f : Format) (d : Direction) (N : ℤ) (D : ℕ) : Given Number → Type 0 where
+  given : {x : Number} → RoundedNumber f d N D x → Outcome f d N D (gives x)
+  too-large : greatest f < natAbs (roundZ (f .base) (f .digits) d N D) → Outcome f d N D (refused 5)

@@ -1,2 +1,0 @@
--- Laws of lines of numbers.
-pub mod DecimalLineLaws

@@ -1,2 +1,0 @@
--- Lines of numbers.
-pub mod DecimalLines

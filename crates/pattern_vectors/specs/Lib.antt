@@ -1,2 +1,0 @@
--- Lines of patterns.
-pub mod PatternLines

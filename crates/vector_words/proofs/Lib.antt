@@ -1,3 +1,0 @@
--- Laws of words and of numerals.
-pub mod WordLaws
-pub mod NumeralLaws

@@ -1,0 +1,65 @@
+-- The calls of the rows, in the order of their numbers.
+use Prim.Native.Nat.{ℕ}
+use mathlib.Core.Bool.{Bool, true, false}
+use mathlib.Core.List.{List, [], _∷_}
+use lib.ListN.{getD}
+use lib.IntN.{pos}
+use Rattle.format.specs.declared.Format.{Format}
+use Rattle.format.specs.Given.{Given, gives, _then_}
+use Rattle.number.specs.declared.Number.{Number}
+use Rattle.number.specs.declared.Ordering.{Ordering}
+use Rattle.number.specs.declared.Ordering.the-variants.{Less, Equal, Greater}
+use Rattle.number.specs.Signs.{negated, unsigned}
+use Rattle.number.specs.Order.{compared}
+use Rattle.units.specs.Neighbours.{predecessorOf, successorOf}
+use Rattle.units.specs.Places.{firstPlace}
+use Rattle.arithmetic.specs.Operations.{summed, subtracted, multiplied, divided, fractioned}
+use Rattle.fast_two_sum.specs.declared.Steps.{Steps}
+use Rattle.fast_two_sum.specs.Calls.{fastTwoSum}
+use Rattle.binary32_arithmetic.specs.declared.Operation.the-variants.{Sum, Difference, Product, Quotient}
+use Rattle.binary32_arithmetic.specs.Calls.{patternCall}
+
+-- ---- answers that are no numbers, as numbers
+abbrev pub whole : (negative : Bool) (n : ℕ) → Number
+whole negative n = record { negative = negative; significand = n; exponent = pos 0 }
+
+-- an order as -1, 0 or 1
+abbrev pub orderWhole : Ordering → Number
+orderWhole Less = whole true 1
+orderWhole Equal = whole false 0
+orderWhole Greater = whole false 1
+
+abbrev pub wholeOrder : Given Ordering → Given Number
+wholeOrder g = g then λ o. gives (orderWhole o)
+
+-- a pattern as a whole number
+abbrev pub patternNumber : Given ℕ → Given Number
+patternNumber g = g then λ n. gives (whole false n)
+
+-- x of the three steps
+abbrev pub firstOfSteps : Given Steps → Given Number
+firstOfSteps g = g then λ s. gives (s .x)
+
+-- ---- the operations
+abbrev pub calls : Format → (d : ℕ) (a b : Number) → List (Given Number)
+calls f d a b =
+    summed f d a b
+    ∷ subtracted f d a b
+    ∷ multiplied f d a b
+    ∷ divided f d a b
+    ∷ fractioned f d (a .exponent) (b .significand)
+    ∷ wholeOrder (compared f a b)
+    ∷ unsigned f a
+    ∷ negated f a
+    ∷ predecessorOf f a
+    ∷ successorOf f a
+    ∷ firstPlace f a
+    ∷ patternNumber (patternCall Sum d (a .significand) (b .significand))
+    ∷ patternNumber (patternCall Difference d (a .significand) (b .significand))
+    ∷ patternNumber (patternCall Product d (a .significand) (b .significand))
+    ∷ patternNumber (patternCall Quotient d (a .significand) (b .significand))
+    ∷ []
+
+-- what the operation with this number answers: from 15 on, the three-step sum
+unfoldable pub answerOf : (operation : ℕ) → Format → (d : ℕ) (a b : Number) → Given Number
+answerOf operation f d a b = getD (calls f d a b) operation (firstOfSteps (fastTwoSum f d d d a b))

@@ -1,0 +1,96 @@
+// The calls of the rows.
+use binary32::PatternAnswer;
+use binary32_arithmetic::operations;
+use fast_two_sum::StepsAnswer;
+use fast_two_sum::sum::fast_two_sum;
+use format::Format;
+use number::Number;
+use number::NumberAnswer;
+use number::OrderAnswer;
+use number::Ordering;
+ghost use mathlib.Core.Path.{_≡_};
+ghost use mathlib.Core.Bool.{true, false};
+ghost use Rattle.number.specs.Answers.{numberGiven, orderGiven};
+ghost use Rattle.fast_two_sum.specs.Answers.{stepsGiven};
+ghost use Rattle.binary32.specs.Patterns.{patternGiven};
+ghost use Rattle.vectors.specs.Calls.{whole, orderWhole, wholeOrder, patternNumber, firstOfSteps, answerOf};
+
+// A whole number.
+pub fn whole(negative: bool, n: u32) -> Number
+    ensures { λ r. ⌜ r ≡ whole negative n ⌝ }
+{
+    Number {
+        negative: negative,
+        significand: n,
+        exponent: 0,
+    }
+}
+
+// An order as -1, 0 or 1.
+fn order_whole(order: Ordering) -> Number
+    ensures { λ r. ⌜ r ≡ orderWhole order ⌝ }
+{
+    match order {
+        Ordering::Less => whole(true, 1),
+        Ordering::Equal => whole(false, 0),
+        Ordering::Greater => whole(false, 1),
+    }
+}
+
+fn order_number(answer: OrderAnswer) -> NumberAnswer
+    ensures { λ r. ⌜ numberGiven r ≡ wholeOrder (orderGiven answer) ⌝ }
+{
+    match answer {
+        OrderAnswer::Ordered(order) => NumberAnswer::Value(order_whole(order)),
+        OrderAnswer::Refused(why) => NumberAnswer::Refused(why),
+    }
+}
+
+// A pattern as a whole number.
+fn pattern_number(pattern: PatternAnswer) -> NumberAnswer
+    ensures { λ r. ⌜ numberGiven r ≡ patternNumber (patternGiven pattern) ⌝ }
+{
+    match pattern {
+        PatternAnswer::Written(n) => NumberAnswer::Value(whole(false, n)),
+        PatternAnswer::Refused(why) => NumberAnswer::Refused(why),
+    }
+}
+
+// x of three steps.
+fn first_step(steps: StepsAnswer) -> NumberAnswer
+    ensures { λ r. ⌜ numberGiven r ≡ firstOfSteps (stepsGiven steps) ⌝ }
+{
+    match steps {
+        StepsAnswer::Triple(triple) => {
+            let x = triple.x;
+            NumberAnswer::Value(x)
+        }
+        StepsAnswer::Refused(why) => NumberAnswer::Refused(why),
+    }
+}
+
+// What the operation with this number answers; the last is the three-step sum.
+pub fn answer_of(operation: u32, format: Format, d: u32, a: Number, b: Number) -> NumberAnswer
+    ensures { λ r. ⌜ numberGiven r ≡ answerOf operation format d a b ⌝ }
+{
+    let m = a.significand;
+    let n = b.significand;
+    match operation {
+        0 => arithmetic::sum::sum(format, d, a, b),
+        1 => arithmetic::sum::difference(format, d, a, b),
+        2 => arithmetic::product::product(format, d, a, b),
+        3 => arithmetic::quotient::quotient(format, d, a, b),
+        4 => arithmetic::fraction::fraction(format, d, a.exponent, n),
+        5 => order_number(number::order::compare(format, a, b)),
+        6 => number::signs::magnitude(format, a),
+        7 => number::signs::negate(format, a),
+        8 => units::neighbours::predecessor(format, a),
+        9 => units::neighbours::successor(format, a),
+        10 => units::places::ufp(format, a),
+        11 => pattern_number(operations::pattern_sum(d, m, n)),
+        12 => pattern_number(operations::pattern_difference(d, m, n)),
+        13 => pattern_number(operations::pattern_product(d, m, n)),
+        14 => pattern_number(operations::pattern_quotient(d, m, n)),
+        _ => first_step(fast_two_sum(format, d, d, d, a, b)),
+    }
+}

@@ -1,0 +1,21 @@
+-- `wide::sum::aligned_sum` meets its contract.
+use Rattle.theory.proofs.Prelude.{_+ℤ_, needs}
+use Rattle.wide.specs.Operand.{valueOf}
+use Rattle.wide.proofs.Sums.{sum-finishes, sum-rounds}
+use Rattle.wide.proofs.sum.aligned_sum.Statement.{statement}
+use Rattle.wide.proofs.sum.aligned_sum.Tie as tie
+
+finish-requires : tie.Need-finish-requires
+finish-requires c κs =
+    let p = c .before .before .before .pre in
+    sum-finishes (p .0) (p .1) (p .2) (c .far-cut .ensures)
+
+returns-2 : tie.Need-returns-2
+returns-2 c =
+    let a = c .before .before .before .before .args in
+    sum-rounds (valueOf (a .scale .base) (a .x) +ℤ valueOf (a .scale .base) (a .y)) (c .before .far-cut .ensures) (c .finish .ensures)
+
+pub aligned-sum-spec : {M : Type 1} → statement M
+aligned-sum-spec =
+    tie.close
+    (tie.spec (λ c κs. search needs) (λ c. search needs) (λ c κs. search needs) finish-requires returns-2)

@@ -1,0 +1,60 @@
+#!/usr/bin/env python3
+"""Writes crates/vectors/stdin: a row for each line of the files beside this script.
+
+A row is 16 columns of 16 hexadecimal digits, one space between two and a line feed at the end: the operation, base, digits, emin, emax,
+direction; sign, significand, exponent of the first operand and of the second; the answer's refusal number, 0 for none, and its sign,
+significand, exponent. Below zero is two's complement. Columns that a call does not use are 0.
+- A pattern stands as a significand.
+- A fraction's numerator stands as the first exponent, its denominator as the second significand.
+- A comparison answers -1, 0 or 1 as a sign and a significand.
+- The three-step sum, each step in the row's direction, answers x."""
+import os
+
+FILES = ["binary32_nearest.txt", "binary32_directions.txt", "decimal.txt", "fractions.txt", "scope.txt"]
+# the operations in the order of their numbers, which is that of `calls` in crates/vectors/specs/Calls.antt
+NUMBERS = ["sum", "diff", "prod", "quot", "frac", "cmp", "abs", "neg", "pred", "succ", "ufp"]
+PATTERNS = ["sum", "diff", "prod", "quot"]
+OPERATIONS = NUMBERS + ["pattern " + name for name in PATTERNS] + ["steps"]
+NOTHING = [0, 0, 0]
+
+
+def pattern_row(name, direction, a, b, answer):
+    refusal, pattern = int(answer[:8], 16), int(answer[8:], 16)
+    operation = OPERATIONS.index("pattern " + name)
+    return [operation, 0, 0, 0, 0, int(direction), 0, int(a, 16), 0, 0, int(b, 16), 0, refusal, 0, pattern, 0]
+
+
+def answer_columns(kind, *words):
+    values = [int(word) for word in words]
+    if kind == "n":
+        return [0] + values
+    if kind == "c":
+        return [0, int(values[0] < 0), abs(values[0]), 0]
+    assert kind == "r"
+    return values + NOTHING
+
+
+def number_row(call, answer):
+    name, values = call[0], [int(word) for word in call[1:]]
+    operands = values[5:]
+    if name == "frac":
+        operands = [0, 0, operands[0], 0, operands[1], 0]
+    operands += NOTHING[: 6 - len(operands)]
+    return [OPERATIONS.index(name)] + values[:5] + operands + answer_columns(*answer)
+
+
+def row(line):
+    words = line.split()
+    arrow = words.index("->")
+    if arrow == 4:
+        return pattern_row(*words[:4], words[5])
+    return number_row(words[:arrow], words[arrow + 1 :])
+
+
+here = os.path.dirname(os.path.abspath(__file__))
+with open(os.path.join(here, "../../crates/vectors/stdin"), "w") as out:
+    for name in FILES:
+        for line in open(os.path.join(here, name)):
+            columns = row(line)
+            assert len(columns) == 16
+            out.write(" ".join(f"{value % 2**64:016x}" for value in columns) + "\n")
