@@ -26,7 +26,7 @@ static zurkeb_number decode(BID_UINT32 n) {
     bool wide = (n & 0x60000000u) == 0x60000000u;
     zurkeb_number x = {n >> 31, wide ? 0x800000u | (n & 0x1fffffu) : n & 0x7fffffu, (int32_t)(n >> (wide ? 21 : 23) & 255) - 101};
     if (x.significand == 0)
-        return (zurkeb_number){false, 0, -101};
+        return (zurkeb_number){0, 0, -101};
     while (x.significand < 1000000 && x.exponent > -101) {
         x.significand *= 10;
         x.exponent--;

@@ -1,6 +1,7 @@
 /* The benchmark: nanoseconds for each call of the C interface, beside MPFR and Intel's decimal library on the same operands, and a
  * comparison of all results. Prints tables in Markdown. */
 #include <inttypes.h>
+#include <stdbool.h>
 #include <stdio.h>
 
 #include "boundaries.h"

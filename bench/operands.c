@@ -1,6 +1,8 @@
 /* Random pairs of any format. A number's size is the exponent of its first digit, so that size 0 is a value from 1 to the base. */
 #include "operands.h"
 
+#include <stdbool.h>
+
 static uint64_t state = 88172645463325252u;
 
 uint32_t random32(void) {

@@ -3,6 +3,8 @@
 #ifndef BENCH_PEERS_H
 #define BENCH_PEERS_H
 
+#include <stdbool.h>
+
 #include "operands.h"
 #include "timing.h"
 

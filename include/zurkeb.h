@@ -1,7 +1,8 @@
 /* Zurkeb: proved floating-point arithmetic for any base from 2 to 256.
  *
  * Every call takes anything: it answers, or refuses by a number of enum zurkeb_refusal. An answer struct begins with the refusal,
- * 0 for none; at a refusal its other fields are zero. Numbers and formats go by value. */
+ * 0 for none; at a refusal its other fields are zero, except `indexed` and `index` where the refusal has an index. Numbers and formats
+ * go by value. A slice goes as a pointer and a length; the caller sees to it that the pointer leads to that many entries. */
 #ifndef ZURKEB_H
 #define ZURKEB_H
 
@@ -25,8 +26,8 @@ enum zurkeb_refusal {
     ZURKEB_PREMISE_FAILS = 8,
     ZURKEB_NOT_FINITE = 9,
     ZURKEB_NO_SUCH_FORMAT = 10,
-    ZURKEB_LENGTHS_DIFFER = 11,
-    ZURKEB_LIST_LENGTH = 12, /* empty, or longer than 4,096 */
+    ZURKEB_LENGTHS_DIFFER = 11, /* or more than 4,096 queries */
+    ZURKEB_LIST_LENGTH = 12,    /* empty, or longer than 4,096 */
     ZURKEB_LIST_DESCENDS = 13,
     ZURKEB_OUT_TOO_SHORT = 14,
     ZURKEB_LIST_REPEATS = 15,
@@ -52,9 +53,10 @@ typedef struct zurkeb_format {
     int32_t emax;
 } zurkeb_format;
 
-/* The value (-1)^negative * significand * base^exponent. */
+/* The value (-1)^negative * significand * base^exponent. In an answer `negative` is 0 or 1; a number that is handed over with any
+ * other value there is in no format, and is refused by 3. */
 typedef struct zurkeb_number {
-    bool negative;
+    uint32_t negative; /* 0 plus, 1 minus */
     uint32_t significand;
     int32_t exponent;
 } zurkeb_number;
@@ -89,40 +91,41 @@ typedef struct zurkeb_slices_answer {
     uint64_t index; /* of the first refused entry, beside refusals 5 and 9 */
 } zurkeb_slices_answer;
 
+/* The next four are laid out alike; `indexed` is 1 where the refusal has an index, else 0. */
 typedef struct zurkeb_position_answer {
     uint32_t refusal;
     uint32_t position;
-    uint32_t indexed; /* 1 where the refusal has an index */
-    uint32_t index;   /* of the first bad pattern in the list, beside refusal 9 */
+    uint32_t indexed;
+    uint32_t index; /* of the first bad pattern in the list, beside refusal 9 */
 } zurkeb_position_answer;
 
 typedef struct zurkeb_reach_answer {
     uint32_t refusal;
     uint32_t found;
-    uint32_t indexed; /* 1 where the refusal has an index */
-    uint32_t index;   /* of the first bad pattern in the list, beside refusal 9 */
+    uint32_t indexed;
+    uint32_t index; /* of the first bad pattern in the list, beside refusal 9 */
 } zurkeb_reach_answer;
 
 typedef struct zurkeb_row_answer {
     uint32_t refusal;
-    uint32_t looked;  /* lines looked at after the checks */
-    uint32_t indexed; /* 1 where the refusal has an index */
-    uint32_t index;   /* of the first bad pattern in the list or in the queries, beside refusal 9 */
+    uint32_t looked; /* lines looked at after the checks */
+    uint32_t indexed;
+    uint32_t index; /* of the first bad pattern in the list or in the queries, beside refusal 9 */
 } zurkeb_row_answer;
+
+typedef struct zurkeb_boundary_answer {
+    uint32_t refusal;
+    uint32_t sum; /* the pattern of the last x */
+    uint32_t indexed;
+    uint32_t index; /* of a strip, beside refusals 5 and 9 */
+} zurkeb_boundary_answer;
 
 typedef struct zurkeb_stretch_answer {
     uint32_t refusal;
     uint32_t log;     /* 1 the first, 2 the second */
-    uint32_t indexed; /* 1 where an index comes with the refusal */
+    uint32_t indexed; /* 1 where the refusal has an index, else 0 */
     uint64_t index;   /* of the first pattern that is refused by 9, counted from its log's start */
 } zurkeb_stretch_answer;
-
-typedef struct zurkeb_boundary_answer {
-    uint32_t refusal;
-    uint32_t sum;     /* the pattern of the last x */
-    uint32_t indexed; /* 1 where index is that of a strip, beside refusals 5 and 9; else 0 */
-    uint32_t index;
-} zurkeb_boundary_answer;
 
 #ifdef __cplusplus
 #define ZURKEB_SIZE(type, size) static_assert(sizeof(type) == (size), #type)
@@ -140,8 +143,8 @@ ZURKEB_SIZE(zurkeb_slices_answer, 16);
 ZURKEB_SIZE(zurkeb_position_answer, 16);
 ZURKEB_SIZE(zurkeb_reach_answer, 16);
 ZURKEB_SIZE(zurkeb_row_answer, 16);
-ZURKEB_SIZE(zurkeb_stretch_answer, 24);
 ZURKEB_SIZE(zurkeb_boundary_answer, 16);
+ZURKEB_SIZE(zurkeb_stretch_answer, 24);
 #undef ZURKEB_SIZE
 
 /* Is the format admitted? 0, or 1. */
@@ -189,7 +192,7 @@ zurkeb_check_answer zurkeb_is_fast_two_sum(zurkeb_format format, zurkeb_number a
 
 /* The number of a binary32 pattern, in published format 2. Refuses 9. */
 zurkeb_number_answer zurkeb_read_pattern(uint32_t pattern);
-/* The calls below answer a 64-bit number: the refusal (0 for none) in the upper half, the pattern in the lower, 0 at a refusal. */
+/* The next five calls answer a 64-bit number: the refusal (0 for none) in the upper half, the pattern in the lower, 0 at a refusal. */
 /* The pattern of a number of published format 2. Refuses 3. */
 uint64_t zurkeb_write_pattern(zurkeb_number x);
 /* Sum, difference, product and quotient of patterns. Refuse 2, 9, 5; the quotient also 4. */
@@ -218,20 +221,20 @@ zurkeb_position_answer zurkeb_nearest_line(const uint32_t *offsets, size_t lengt
  * the list with its index; then the query, then the distance), 13, 15, and 14 where out is shorter than the number found. Entries
  * past the last one found are unchanged, and a refused call leaves out as it was. out must not overlap offsets. */
 zurkeb_reach_answer zurkeb_lines_within(const uint32_t *offsets, size_t length, uint32_t query, uint32_t distance, uint32_t *out,
-                                        size_t out_length);
+                                          size_t out_length);
 /* zurkeb_nearest_line for each of a row of queries, which ascend by value, equal ones allowed: the positions in out, and how many lines
  * were looked at, at most the saved lines and twice the queries. After each query the search goes on from the line just found. Refuses
  * 11 (unequal query and answer lengths, or more than 4,096 queries), then the list by 12, 9 (with its index), 13, 15, then the queries
  * by 9 (with its index), 16 where they descend. A refused call leaves out as it was. out must not overlap offsets or queries. */
 zurkeb_row_answer zurkeb_nearest_lines(const uint32_t *offsets, size_t length, const uint32_t *queries, size_t query_length,
-                                       uint32_t *out, size_t out_length);
+                                           uint32_t *out, size_t out_length);
 
 /* The strips of a boundary, 1 to 4,096 binary32 patterns, summed from the first on, each step a three-step sum with the larger
  * magnitude first. Answers the last x (a lone strip as it is) and writes each y into rests, which is one entry shorter. Refuses 18,
  * 11, 2, and 9 and 5 with the index of the first strip that is not finite, or of the strip that made the sum too large; a refused
  * call leaves rests as it was. rests must not overlap strips. */
 zurkeb_boundary_answer zurkeb_boundary_sum(const uint32_t *strips, size_t length, uint32_t *rests, size_t rests_length,
-                                           uint32_t direction);
+                                          uint32_t direction);
 
 #ifdef __cplusplus
 }

@@ -25,7 +25,7 @@ int main(int count, char **arguments) {
     long times = atol(arguments[4]);
     zurkeb_format format = {base, digits, -101, 90};
     uint32_t least = power(base, digits - 1);
-    zurkeb_number a = {false, least + least / 2, 0}, b = {false, least + least / 3, -2};
+    zurkeb_number a = {0, least + least / 2, 0}, b = {0, least + least / 3, -2};
     volatile uint32_t used = 0;
     for (long i = 0; i < times; i++) {
         a.significand ^= (uint32_t)(i & 1);

@@ -1,5 +1,7 @@
 /* Fractions against a plain computation in 128-bit integers: every direction, formats with Emin below, at and above zero and with
  * Emax below it, the refusals in their order, and the ends of both ranges. An argument is the number of random fractions. */
+#include <stdbool.h>
+
 #include "compare.h"
 #include "zurkeb.h"
 

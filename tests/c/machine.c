@@ -2,6 +2,7 @@
  * many comparisons were made; stops with an error at the first difference. */
 #include <fenv.h>
 #include <math.h>
+#include <stdbool.h>
 #include <string.h>
 
 #include "compare.h"
@@ -104,7 +105,7 @@ static void neighbours(uint32_t a) {
 /* One call for each refusal number, and results of each kind. */
 static void interface(void) {
     zurkeb_format d = {10, 3, -5, 5}, bad = {257, 3, -5, 5}, two = {2, 3, -9, 9};
-    zurkeb_number one = {false, 100, -2}, greatest = {false, 999, 5}, outside = {false, 1000, 0}, zero = {false, 0, -5};
+    zurkeb_number one = {0, 100, -2}, greatest = {0, 999, 5}, outside = {0, 1000, 0}, zero = {0, 0, -5};
     same("check_format", zurkeb_check_format(d), 0);
     same("check_format", zurkeb_check_format(bad), ZURKEB_FORMAT_NOT_ADMITTED);
     same("published", zurkeb_published(3).format.base, 10);
@@ -113,8 +114,8 @@ static void interface(void) {
     same("check_number", zurkeb_check_number(d, outside), ZURKEB_NUMBER_NOT_IN_FORMAT);
     same("compare", (uint32_t)zurkeb_compare(d, zero, one).order, (uint32_t)-1);
     same("compare", zurkeb_compare(bad, zero, one).refusal, ZURKEB_FORMAT_NOT_ADMITTED);
-    same("negate", zurkeb_negate(d, one).number.negative, true);
-    same("magnitude", zurkeb_magnitude(d, zurkeb_negate(d, one).number).number.negative, false);
+    same("negate", zurkeb_negate(d, one).number.negative, 1);
+    same("magnitude", zurkeb_magnitude(d, zurkeb_negate(d, one).number).number.negative, 0);
     same("ufp", zurkeb_ufp(d, greatest).number.significand, 100);
     same("ulp", zurkeb_ulp(d, one).number.exponent == -4 && zurkeb_ulp(d, one).number.significand == 100, 1);
     same("uls", zurkeb_uls(d, one).number.exponent == -2 && zurkeb_uls(d, one).number.significand == 100, 1);
@@ -126,17 +127,19 @@ static void interface(void) {
     same("product", zurkeb_product(d, 0, greatest, greatest).refusal, ZURKEB_TOO_LARGE);
     same("quotient", zurkeb_quotient(d, 0, one, zero).refusal, ZURKEB_DIVISOR_ZERO);
     zurkeb_format routes = {10, 3, -3, 3}, short_of = {10, 3, -2, 3};
-    zurkeb_number unit = {false, 100, -2};
+    zurkeb_number unit = {0, 100, -2};
     same("ufp_toward_zero", zurkeb_ufp_toward_zero(routes, unit).number.significand, 100);
     same("ufp_toward_zero", zurkeb_ufp_toward_zero(short_of, unit).refusal, ZURKEB_PREMISE_FAILS);
     same("ulp_upward", zurkeb_ulp_upward(d, one).number.exponent == -4, 1);
     same("ulp_toward_zero", zurkeb_ulp_toward_zero(d, one).number.exponent == -4, 1);
     same("ulp_toward_zero_unbranched", zurkeb_ulp_toward_zero_unbranched(d, one).number.exponent == -4, 1);
-    zurkeb_number four = {false, 4, 0}, half = {false, 4, -3}, sixteenth = {false, 4, -6};
+    zurkeb_number four = {0, 4, 0}, half = {0, 4, -3}, sixteenth = {0, 4, -6};
     same("fast_two_sum", zurkeb_fast_two_sum(d, 0, 0, 0, one, one).refusal, ZURKEB_NOT_BINARY);
     same("fast_two_sum", zurkeb_fast_two_sum(two, 3, 3, 3, half, four).refusal, ZURKEB_SMALLER_FIRST);
     zurkeb_triple_answer t = zurkeb_fast_two_sum(two, 3, 3, 3, four, sixteenth);
-    same("fast_two_sum", t.x.significand == 5 && t.x.exponent == 0 && t.z.significand == 4 && t.z.exponent == -2 && t.y.negative && t.y.significand == 7 && t.y.exponent == -3, 1);
+    same("fast_two_sum x", t.x.negative == 0 && t.x.significand == 5 && t.x.exponent == 0, 1);
+    same("fast_two_sum z", t.z.negative == 0 && t.z.significand == 4 && t.z.exponent == -2, 1);
+    same("fast_two_sum y", t.y.negative == 1 && t.y.significand == 7 && t.y.exponent == -3, 1);
     same("is_fast_two_sum", zurkeb_is_fast_two_sum(two, four, sixteenth, t.x, t.z, t.y).yes, 1);
     same("is_fast_two_sum", zurkeb_is_fast_two_sum(two, four, sixteenth, t.x, t.z, four).yes, 0);
     same("read_pattern", zurkeb_read_pattern(0x7f800000u).refusal, ZURKEB_NOT_FINITE);

@@ -1,59 +1,20 @@
 /* Saved lines against plain searches on exact values: a pattern is a whole number of 2^-149 units in an array of words, and every
  * distance is the difference of two such numbers. */
-#include <stdbool.h>
 #include <string.h>
 
 #include "compare.h"
+#include "exact.h"
 #include "zurkeb.h"
 
-enum { WORDS = 5, MOST = 4096 };
+enum { MOST = 4096 };
 
-/* ---- whole numbers of 320 bits, in two's complement, lowest word first */
-typedef struct whole {
-    uint64_t word[WORDS];
-} whole;
+/* -1, 0 or 1: the order of two values. */
+static int by_values(uint32_t a, uint32_t b) { return exact_compare(exact_value(a), exact_value(b)); }
 
-static whole minus(whole a, whole b) {
-    whole r;
-    uint64_t borrow = 0;
-    for (int i = 0; i < WORDS; i++) {
-        uint64_t d = a.word[i] - b.word[i];
-        r.word[i] = d - borrow;
-        borrow = a.word[i] < b.word[i] || d < borrow;
-    }
-    return r;
+static exact distance(uint32_t offset, uint32_t query) {
+    exact apart = exact_difference(exact_value(offset), exact_value(query));
+    return exact_sign(apart) < 0 ? exact_negated(apart) : apart;
 }
-
-static bool below_zero(whole a) { return a.word[WORDS - 1] >> 63; }
-
-static whole magnitude(whole a) { return below_zero(a) ? minus((whole){{0}}, a) : a; }
-
-/* -1, 0 or 1: the order of a and b. */
-static int order(whole a, whole b) {
-    whole d = minus(a, b);
-    if (below_zero(d))
-        return -1;
-    for (int i = 0; i < WORDS; i++)
-        if (d.word[i] != 0)
-            return 1;
-    return 0;
-}
-
-/* The value of a finite pattern in units of 2^-149. */
-static whole value(uint32_t pattern) {
-    uint32_t field = pattern >> 23 & 255, fraction = pattern & 0x7fffff;
-    uint64_t significand = field == 0 ? fraction : fraction | 0x800000;
-    unsigned place = field == 0 ? 0 : field - 1;
-    whole r = {{0}};
-    r.word[place / 64] = significand << place % 64;
-    if (place % 64 != 0)
-        r.word[place / 64 + 1] = significand >> (64 - place % 64);
-    return pattern >> 31 ? minus((whole){{0}}, r) : r;
-}
-
-static whole distance(uint32_t offset, uint32_t query) { return magnitude(minus(value(offset), value(query))); }
-
-static bool finite(uint32_t pattern) { return (pattern >> 23 & 255) != 255; }
 
 /* ---- what the requests say */
 /* What a call answers: a refusal, perhaps with an index, or a number. */
@@ -69,29 +30,29 @@ static answer checked(const uint32_t *list, size_t length, bool beside_finite) {
         return r;
     }
     for (size_t i = 0; i < length; i++)
-        if (!finite(list[i]))
+        if (!is_finite_pattern(list[i]))
             return (answer){9, 0, 1, (uint32_t)i};
     if (!beside_finite) {
         r.refusal = 9;
         return r;
     }
     for (size_t i = 0; i + 1 < length; i++)
-        if (order(value(list[i]), value(list[i + 1])) > 0)
+        if (by_values(list[i], list[i + 1]) > 0)
             r.refusal = 13;
     for (size_t i = 0; i + 1 < length && r.refusal == 0; i++)
-        if (order(value(list[i]), value(list[i + 1])) == 0)
+        if (by_values(list[i], list[i + 1]) == 0)
             r.refusal = 15;
     return r;
 }
 
 /* Is the line at i nearer than that at best, or as near and of a smaller offset? */
 static bool better(const uint32_t *list, uint32_t query, size_t i, size_t best) {
-    int by_distance = order(distance(list[i], query), distance(list[best], query));
-    return by_distance < 0 || (by_distance == 0 && order(value(list[i]), value(list[best])) < 0);
+    int by_distance = exact_compare(distance(list[i], query), distance(list[best], query));
+    return by_distance < 0 || (by_distance == 0 && by_values(list[i], list[best]) < 0);
 }
 
 static answer nearest(const uint32_t *list, size_t length, uint32_t query) {
-    answer r = checked(list, length, finite(query));
+    answer r = checked(list, length, is_finite_pattern(query));
     if (r.refusal != 0)
         return r;
     size_t best = 0;
@@ -103,11 +64,13 @@ static answer nearest(const uint32_t *list, size_t length, uint32_t query) {
 }
 
 /* Is the offset at most the reach away from the query? */
-static bool within(uint32_t offset, uint32_t query, uint32_t reach) { return order(distance(offset, query), value(reach)) <= 0; }
+static bool within(uint32_t offset, uint32_t query, uint32_t reach) {
+    return exact_compare(distance(offset, query), exact_value(reach)) <= 0;
+}
 
 /* How many lines are within reach, and which. */
 static answer reached(const uint32_t *list, size_t length, uint32_t query, uint32_t reach, size_t room, bool *found) {
-    answer r = checked(list, length, finite(query) && finite(reach));
+    answer r = checked(list, length, is_finite_pattern(query) && is_finite_pattern(reach));
     if (r.refusal != 0)
         return r;
     for (size_t i = 0; i < length; i++) {
@@ -128,17 +91,17 @@ static answer row(const uint32_t *list, size_t length, const uint32_t *queries, 
     if (r.refusal != 0)
         return r;
     for (size_t i = 0; i < count; i++)
-        if (!finite(queries[i]))
+        if (!is_finite_pattern(queries[i]))
             return (answer){9, 0, 1, (uint32_t)i};
     for (size_t i = 0; i + 1 < count; i++)
-        if (order(value(queries[i]), value(queries[i + 1])) > 0)
+        if (by_values(queries[i], queries[i + 1]) > 0)
             return (answer){16, 0, 0, 0};
     size_t at = 0;
     for (size_t i = 0; i < count; i++) {
         bool closer = true;
         r.number++;
         for (size_t k = at + 1; k < length && closer; k++) {
-            closer = order(distance(list[k], queries[i]), distance(list[k - 1], queries[i])) < 0;
+            closer = exact_compare(distance(list[k], queries[i]), distance(list[k - 1], queries[i])) < 0;
             r.number++;
         }
         positions[i] = (uint32_t)(at = nearest(list, length, queries[i]).number);
@@ -227,7 +190,7 @@ static uint32_t some_pattern(uint32_t near) {
     case 0:
         do
             pattern = random32();
-        while (!finite(pattern));
+        while (!is_finite_pattern(pattern));
         return pattern;
     case 1:
         return special[random32() % COUNT(special)];
@@ -242,11 +205,11 @@ static uint32_t some_pattern(uint32_t near) {
         return (random32() & 0x80000000) | (0x7f7fffff - random32() % 8);
     default:
         pattern = near + random32() % 9 - 4;
-        return finite(pattern) ? pattern : near;
+        return is_finite_pattern(pattern) ? pattern : near;
     }
 }
 
-static int by_value(const void *a, const void *b) { return order(value(*(const uint32_t *)a), value(*(const uint32_t *)b)); }
+static int by_value(const void *a, const void *b) { return by_values(*(const uint32_t *)a, *(const uint32_t *)b); }
 
 /* A list that rises strictly, of at most this length. Answers its length. */
 static size_t fill(uint32_t *list, size_t most) {
@@ -255,7 +218,7 @@ static size_t fill(uint32_t *list, size_t most) {
         list[i] = some_pattern(i == 0 ? 0 : list[i - 1]);
     qsort(list, most, sizeof *list, by_value);
     for (size_t i = 0; i < most; i++)
-        if (length == 0 || order(value(list[length - 1]), value(list[i])) != 0)
+        if (length == 0 || by_values(list[length - 1], list[i]) != 0)
             list[length++] = list[i];
     return length;
 }
