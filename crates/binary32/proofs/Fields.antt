@@ -23,9 +23,9 @@ abbrev pub significandOf : (field fraction : ℕ) → ℕ
 significandOf field fraction = cond (eqb field 0) fraction (2 ^ 23 + fraction)
 
 pub significand-canonical : (field : ℕ) {fraction : ℕ} → fraction < 2 ^ 23 → Canonical 2 24 (significandOf field fraction) (field - 1)
-significand-canonical zero h = record { small = omega arith; full = inl (omega arith) }
+significand-canonical zero h = record { small = omega arith; normal = inl (omega arith) }
 significand-canonical (suc field) {fraction} h =
-    rw (ne-eqb (suc field) 0 (λ e. omega arith)) (record { small = omega arith; full = inr (omega arith) })
+    rw (ne-eqb (suc field) 0 (λ e. omega arith)) (record { small = omega arith; normal = inr (omega arith) })
 
 pub magnitude-is : (n : ℕ) → magnitudeRead n ≡ significandOf (fieldOf n) (fractionOf n) * 2 ^ (fieldOf n - 1)
 unfolding magnitudeRead

@@ -136,7 +136,7 @@ module _ {s : Bool} {E F n : ℕ} (p : Parts s E F n) where
 module _ (x : Number) (i : Member binary32 x) where
   -- a small number is at place 0
   flat : x .significand < 2 ^ 23 → placeOf binary32 x ≡ 0
-  flat h = ⊎-elim (λ e. e) (λ l. absurd (omega arith)) (member-canonical binary32-limits i .full)
+  flat h = ⊎-elim (λ e. e) (λ l. absurd (omega arith)) (member-canonical binary32-limits i .normal)
 
   small-parts : x .significand < 2 ^ 23 → Parts (x .negative) 0 (x .significand) (patternOf x)
   unfolding patternOf

@@ -19,8 +19,8 @@ pub fn prepared_binary32() -> Prepared
     let scale = Scale {
         base: 2,
         digits: 24,
-        full: 8388608,
-        top: 16777216,
+        least: 8388608,
+        bound: 16777216,
     };
     Prepared {
         format: format,

@@ -117,7 +117,7 @@ module _ (a b c : Wide) {k : ℕ} (h : Placed k c) {low m rest : Wide} (l : SumO
       by false true u v = absurd (omega (arith, there (le-true (valueOf 2 c) total v), le-false (pos 0) (valueOf 2 rest) u))
       by false false u v = refl
 
--- ---- 2 x is in the format: of a significand that is not full it has the double, else the next place
+-- ---- 2 x is in the format: of a significand below 2^23 it has the double, else the next place
 signed-twice : (s : Bool) (n : ℕ) → signed s (n + n) ≡ signed s n +ℤ signed s n
 signed-twice false n = parts-eq (pos (n + n)) (pos n +ℤ pos n) (omega (arith, sum-parts (pos n) (pos n)))
 signed-twice true n =
@@ -128,20 +128,20 @@ module _ (x : Wide) (h : Placed 253 x) where
   pub twice-small : x .significand < 2 ^ 23 → Holds 254 (valueOf 2 x +ℤ valueOf 2 x) (record { negative = x .negative; significand = x .significand * 2; place = x .place })
   twice-small l =
       record {
-        placed = record { canonical = record { small = omega arith; full = inl lowest }; place-most = omega (arith, h .place-most) };
+        placed = record { canonical = record { small = omega arith; normal = inl lowest }; place-most = omega (arith, h .place-most) };
         value = ap (signed (x .negative)) twice ∙ signed-twice (x .negative) (sizeOf 2 x);
       }
     where
       lowest : x .place ≡ 0
-      lowest = ⊎-elim (λ e. e) (λ g. absurd (omega (arith, g, l))) (h .canonical .full)
+      lowest = ⊎-elim (λ e. e) (λ g. absurd (omega (arith, g, l))) (h .canonical .normal)
 
       twice : x .significand * 2 * 2 ^ x .place ≡ sizeOf 2 x + sizeOf 2 x
       twice = omega arith
 
-  pub twice-full : 2 ^ 23 ≤ x .significand → Holds 254 (valueOf 2 x +ℤ valueOf 2 x) (record { negative = x .negative; significand = x .significand; place = x .place + 1 })
-  twice-full l =
+  pub twice-least : 2 ^ 23 ≤ x .significand → Holds 254 (valueOf 2 x +ℤ valueOf 2 x) (record { negative = x .negative; significand = x .significand; place = x .place + 1 })
+  twice-least l =
       record {
-        placed = record { canonical = record { small = h .canonical .small; full = inr (omega arith) }; place-most = omega (arith, h .place-most) };
+        placed = record { canonical = record { small = h .canonical .small; normal = inr (omega arith) }; place-most = omega (arith, h .place-most) };
         value = ap (signed (x .negative)) twice ∙ signed-twice (x .negative) (sizeOf 2 x);
       }
     where

@@ -94,7 +94,7 @@ split-turned {u} {v} {u′} {v′} {r} e f s =
 
 -- ---- the order of two numbers
 pub zero-placed : {z : Wide} → z ≡ zeroWide → Placed 260 z
-zero-placed e = rw e (record { canonical = record { small = omega arith; full = inl refl }; place-most = omega arith })
+zero-placed e = rw e (record { canonical = record { small = omega arith; normal = inl refl }; place-most = omega arith })
 
 plus-zero : (v : ℤ) → v +ℤ pos 0 ≡ v
 plus-zero v = parts-eq (v +ℤ pos 0) v (omega (arith, sum-parts v (pos 0)))

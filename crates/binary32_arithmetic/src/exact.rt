@@ -25,8 +25,8 @@ pub fn binary32_scale() -> Scale
     Scale {
         base: 2,
         digits: 24,
-        full: 8388608,
-        top: 16777216,
+        least: 8388608,
+        bound: 16777216,
     }
 }
 

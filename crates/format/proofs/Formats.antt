@@ -69,11 +69,11 @@ module _ {f : Format} (a : Admitted f) where
   positional = record { base = a .base-low; digits = a .digits-low }
 
   -- one power by the other
-  pub top-full : f .base ^ f .digits ≡ f .base ^ (f .digits - 1) * f .base
-  top-full = pow-pred (f .base) (a .digits-low) ∙ mul-comm (f .base) (f .base ^ (f .digits - 1))
+  pub bound-least : f .base ^ f .digits ≡ f .base ^ (f .digits - 1) * f .base
+  bound-least = pow-pred (f .base) (a .digits-low) ∙ mul-comm (f .base) (f .base ^ (f .digits - 1))
 
-  pub full-top : f .base ^ (f .digits - 1) ≤ f .base ^ f .digits
-  full-top = pow-mono (a .base-low) (omega arith)
+  pub least-bound : f .base ^ (f .digits - 1) ≤ f .base ^ f .digits
+  least-bound = pow-mono (a .base-low) (omega arith)
 
   pub scaled : Scaled (scaleOf f)
   scaled =
@@ -81,9 +81,9 @@ module _ {f : Format} (a : Admitted f) where
         base-least = a .base-low;
         base-most = a .base-high;
         digits-least = a .digits-low;
-        full-power = refl;
-        top-power = refl;
-        top-most = a .power-high;
+        least-power = refl;
+        bound-power = refl;
+        bound-most = a .power-high;
       }
 
 -- the difference of two exponents in their order is from 0 to 2400

@@ -36,7 +36,7 @@ formatChecked f = unless (admitted f) (refused 1) (gives tt)
 
 -- ---- what the calls work out of a format before all else
 abbrev pub scaleOf : Format → Scale
-scaleOf f = record { base = f .base; digits = f .digits; full = f .base ^ (f .digits - 1); top = f .base ^ f .digits }
+scaleOf f = record { base = f .base; digits = f .digits; least = f .base ^ (f .digits - 1); bound = f .base ^ f .digits }
 
 -- the highest place: Emax - Emin
 abbrev pub highestPlace : Format → ℕ
@@ -53,6 +53,6 @@ pub record Scaled (s : Scale) : Type 0 where
   pub base-least : 2 ≤ s .base
   pub base-most : s .base ≤ 256
   pub digits-least : 1 ≤ s .digits
-  pub full-power : s .full ≡ s .base ^ (s .digits - 1)
-  pub top-power : s .top ≡ s .base ^ s .digits
-  pub top-most : s .top ≤ greatestPower
+  pub least-power : s .least ≡ s .base ^ (s .digits - 1)
+  pub bound-power : s .bound ≡ s .base ^ s .digits
+  pub bound-most : s .bound ≤ greatestPower

@@ -68,12 +68,12 @@ pub fn prepare(format: Format) -> Preparation
     }
     let base = format.base;
     let digits = format.digits;
-    let full = power(base, digits - 1);
+    let least = power(base, digits - 1);
     let scale = Scale {
         base: base,
         digits: digits,
-        full: full,
-        top: full * base,
+        least: least,
+        bound: least * base,
     };
     Preparation::Ready(Prepared {
         format: format,

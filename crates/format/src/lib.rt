@@ -39,12 +39,13 @@ pub enum Refusal {
     StripCount,
 }
 
-// A base and a number of digits, with the powers that every operation needs: full = base ^ (digits - 1), top = base ^ digits.
+// A base and a number of digits, with the powers that every operation needs: the least normal significand, base ^ (digits - 1), and the
+// bound that every significand is below, base ^ digits.
 pub struct Scale {
     pub base: u32,
     pub digits: u32,
-    pub full: Significand,
-    pub top: Significand,
+    pub least: Significand,
+    pub bound: Significand,
 }
 
 // An admitted format with its scale and its highest place, emax - emin.

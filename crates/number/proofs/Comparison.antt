@@ -17,9 +17,9 @@ use Rattle.number.proofs.Membership.{Member}
 
 -- digits of a higher place outweigh all below
 outweighed : (β q m n j k : ℕ) → 2 ≤ β → m < β * β ^ q → β ^ q ≤ n → j < k → m * β ^ j < n * β ^ k
-outweighed β q m n j k base small full h =
+outweighed β q m n j k base small least h =
     let under : m * β ^ j < β * β ^ q * β ^ j = mul-lt-mul-of-pos-right small (pow-pos base j) in
-    let over : β ^ q * (β * β ^ j) ≤ n * β ^ k = rw (← pow-succ' β j) (mul-le-mul full (pow-mono base h)) in
+    let over : β ^ q * (β * β ^ j) ≤ n * β ^ k = rw (← pow-succ' β j) (mul-le-mul least (pow-mono base h)) in
     omega arith
 
 module _ {f : Format} {a b : Number} (ok : Admitted f) (i : Member f a) (j : Member f b) where
@@ -34,7 +34,7 @@ module _ {f : Format} {a b : Number} (ok : Admitted f) (i : Member f a) (j : Mem
   pub lower-exponent : Under (a .exponent) (b .exponent) → magnitude f a < magnitude f b
   unfolding magnitude
   lower-exponent h =
-      let full : (b .significand < f .base ^ (f .digits - 1) → ⊥) = λ s. omega (arith, j .small-place s, i .exponent-low) in
+      let least : (b .significand < f .base ^ (f .digits - 1) → ⊥) = λ s. omega (arith, j .small-place s, i .exponent-low) in
       outweighed (f .base) (f .digits - 1) (a .significand) (b .significand) (placeOf f a) (placeOf f b) (ok .base-low)
       (omega (arith, pow-pred (f .base) (ok .digits-low), i .significand-high)) (omega arith) (omega (arith, places))
 

@@ -8,7 +8,7 @@ use Rattle.format.specs.declared.Format.{Format}
 use Rattle.format.specs.declared.Prepared.{Prepared}
 use Rattle.format.specs.Formats.{admitted, preparedOf, highestPlace, Scaled}
 use Rattle.format.proofs.Signed.{Upto, le-true, make-le}
-use Rattle.format.proofs.Formats.{Admitted, admits, full-top, scaled}
+use Rattle.format.proofs.Formats.{Admitted, admits, least-bound, scaled}
 use Rattle.number.specs.declared.Number.{Number}
 use Rattle.number.specs.Checks.{Usable, memberOf}
 use Rattle.number.specs.Numbers.{equalZ, normal, small, isZero, member}
@@ -32,8 +32,8 @@ pub record Member (f : Format) (x : Number) : Type 0 where
   pub small-place : x .significand < f .base ^ (f .digits - 1) → Upto (x .exponent) (f .emin)
   pub zero-sign : x .significand ≡ 0 → x .negative ≡ false
 
-pub full-positive : {f : Format} → Admitted f → 1 ≤ f .base ^ (f .digits - 1)
-full-positive {f} a = pow-pos (a .base-low) (f .digits - 1)
+pub least-positive : {f : Format} → Admitted f → 1 ≤ f .base ^ (f .digits - 1)
+least-positive {f} a = pow-pos (a .base-low) (f .digits - 1)
 
 module _ {f : Format} (x : Number) (a : Admitted f) where
   at-emin : x .exponent ≡ f .emin → x .significand < f .base ^ f .digits → (x .significand ≡ 0 → x .negative ≡ false) → Member f x
@@ -57,11 +57,11 @@ module _ {f : Format} (x : Number) (a : Admitted f) where
       let h₃ = and-right _ _ h₂ in
       let u : x .significand ≤ f .base ^ f .digits - 1 = leb-true _ _ (and-left _ _ h₂) in
       record {
-        significand-high = omega (arith, full-positive a, full-top a);
+        significand-high = omega (arith, least-positive a, least-bound a);
         exponent-low = le-true (f .emin) (x .exponent) (and-left _ _ h₃);
         exponent-high = le-true (x .exponent) (f .emax) (and-right _ _ h₃);
         small-place = λ s. absurd (omega arith);
-        zero-sign = λ z. absurd (omega (arith, full-positive a));
+        zero-sign = λ z. absurd (omega (arith, least-positive a));
       }
 
   of-small : small f x ≡ true → Member f x
@@ -70,14 +70,14 @@ module _ {f : Format} (x : Number) (a : Admitted f) where
       let p : 1 ≤ x .significand = leb-true _ _ (and-left _ _ h₁) in
       let h₂ = and-right _ _ h₁ in
       let u : x .significand < f .base ^ (f .digits - 1) = ltb-true _ _ (and-left _ _ h₂) in
-      at-emin (equal-true _ _ (and-right _ _ h₂)) (omega (arith, full-top a)) (λ z. absurd (omega arith))
+      at-emin (equal-true _ _ (and-right _ _ h₂)) (omega (arith, least-bound a)) (λ z. absurd (omega arith))
 
   of-zero : isZero f x ≡ true → Member f x
   unfolding isZero
   of-zero h₁ =
       let z : x .significand ≡ 0 = eqb-true _ _ (and-left _ _ h₁) in
       let h₂ = and-right _ _ h₁ in
-      at-emin (equal-true _ _ (and-left _ _ h₂)) (omega (arith, full-top a, full-positive a)) (λ _. not-true (and-right _ _ h₂))
+      at-emin (equal-true _ _ (and-left _ _ h₂)) (omega (arith, least-bound a, least-positive a)) (λ _. not-true (and-right _ _ h₂))
 
   pub members : member f x ≡ true → Member f x
   unfolding member
@@ -85,7 +85,7 @@ module _ {f : Format} (x : Number) (a : Admitted f) where
 
   pub member-made : Member f x → member f x ≡ true
   unfolding member normal small isZero
-  member-made i = by-full (leb (f .base ^ (f .digits - 1)) (x .significand)) refl
+  member-made i = by-least (leb (f .base ^ (f .digits - 1)) (x .significand)) refl
     where
       as-zero : x .significand ≡ 0 → Upto (x .exponent) (f .emin) → isZero f x ≡ true
       as-zero z e = and-made (eq-eqb _ _ z) (and-made (make-equal (x .exponent) (f .emin) e (i .exponent-low)) (rw (i .zero-sign z)))
@@ -104,9 +104,9 @@ module _ {f : Format} (x : Number) (a : Admitted f) where
       by-zero true z s = or-right (normal f x) (or-right (small f x) (as-zero (eqb-true _ _ z) (i .small-place s)))
       by-zero false z s = or-right (normal f x) (or-left (isZero f x) (as-small (eqb-false _ _ z) s))
 
-      by-full : (t : Bool) → leb (f .base ^ (f .digits - 1)) (x .significand) ≡ t → normal f x or small f x or isZero f x ≡ true
-      by-full true l = or-left (small f x or isZero f x) (as-normal (leb-true _ _ l))
-      by-full false l = by-zero (eqb (x .significand) 0) refl (leb-false _ _ l)
+      by-least : (t : Bool) → leb (f .base ^ (f .digits - 1)) (x .significand) ≡ t → normal f x or small f x or isZero f x ≡ true
+      by-least true l = or-left (small f x or isZero f x) (as-normal (leb-true _ _ l))
+      by-least false l = by-zero (eqb (x .significand) 0) refl (leb-false _ _ l)
 
   -- the test of a prepared format is membership
   pub member-prepared : memberOf (preparedOf f) x ≡ member f x
@@ -114,10 +114,10 @@ module _ {f : Format} (x : Number) (a : Admitted f) where
   member-prepared = by (memberOf (preparedOf f) x) refl
     where
       made : memberOf (preparedOf f) x ≡ true → Member f x
-      made h = ⊎-elim full few (or-cases _ _ h)
+      made h = ⊎-elim least few (or-cases _ _ h)
         where
-          full : leb (f .base ^ (f .digits - 1)) (x .significand) and ltb (x .significand) (f .base ^ f .digits) and leZ (f .emin) (x .exponent) and leZ (x .exponent) (f .emax) ≡ true → Member f x
-          full h₁ =
+          least : leb (f .base ^ (f .digits - 1)) (x .significand) and ltb (x .significand) (f .base ^ f .digits) and leZ (f .emin) (x .exponent) and leZ (x .exponent) (f .emax) ≡ true → Member f x
+          least h₁ =
               let l : f .base ^ (f .digits - 1) ≤ x .significand = leb-true _ _ (and-left _ _ h₁) in
               let h₂ = and-right _ _ h₁ in
               let h₃ = and-right _ _ h₂ in
@@ -126,15 +126,15 @@ module _ {f : Format} (x : Number) (a : Admitted f) where
                 exponent-low = le-true (f .emin) (x .exponent) (and-left _ _ h₃);
                 exponent-high = le-true (x .exponent) (f .emax) (and-right _ _ h₃);
                 small-place = λ s. absurd (omega arith);
-                zero-sign = λ z. absurd (omega (arith, full-positive a));
+                zero-sign = λ z. absurd (omega (arith, least-positive a));
               }
 
           few : equalZ (x .exponent) (f .emin) and cond (eqb (x .significand) 0) (not (x .negative)) (ltb (x .significand) (f .base ^ (f .digits - 1))) ≡ true → Member f x
           few h₁ = at (eqb (x .significand) 0) refl (and-right _ _ h₁)
             where
               at : (t : Bool) → eqb (x .significand) 0 ≡ t → cond t (not (x .negative)) (ltb (x .significand) (f .base ^ (f .digits - 1))) ≡ true → Member f x
-              at true z n = at-emin (equal-true _ _ (and-left _ _ h₁)) (omega (arith, full-top a, full-positive a, eqb-true (x .significand) 0 z)) (λ _. not-true n)
-              at false z s = at-emin (equal-true _ _ (and-left _ _ h₁)) (omega (arith, full-top a, ltb-true (x .significand) (f .base ^ (f .digits - 1)) s)) (λ e. absurd (eqb-false _ _ z e))
+              at true z n = at-emin (equal-true _ _ (and-left _ _ h₁)) (omega (arith, least-bound a, least-positive a, eqb-true (x .significand) 0 z)) (λ _. not-true n)
+              at false z s = at-emin (equal-true _ _ (and-left _ _ h₁)) (omega (arith, least-bound a, ltb-true (x .significand) (f .base ^ (f .digits - 1)) s)) (λ e. absurd (eqb-false _ _ z e))
 
       holds : Member f x → memberOf (preparedOf f) x ≡ true
       holds i = go (leb (f .base ^ (f .digits - 1)) (x .significand)) refl (eqb (x .significand) 0) refl
@@ -160,8 +160,8 @@ pub record Known (q : Prepared) : Type 0 where
   pub admits : Admitted (q .format)
   pub base : q .scale .base ≡ q .format .base
   pub digits : q .scale .digits ≡ q .format .digits
-  pub full : q .scale .full ≡ q .format .base ^ (q .format .digits - 1)
-  pub top : q .scale .top ≡ q .format .base ^ q .format .digits
+  pub least : q .scale .least ≡ q .format .base ^ (q .format .digits - 1)
+  pub bound : q .scale .bound ≡ q .format .base ^ q .format .digits
   pub highest : q .highest ≡ highestPlace (q .format)
 
 pub known : {q : Prepared} → Usable q → Known q
@@ -170,8 +170,8 @@ known {q} u =
       admits = admits (q .format) (u .format);
       base = ap (λ (r : Prepared). r .scale .base) (u .is);
       digits = ap (λ (r : Prepared). r .scale .digits) (u .is);
-      full = ap (λ (r : Prepared). r .scale .full) (u .is);
-      top = ap (λ (r : Prepared). r .scale .top) (u .is);
+      least = ap (λ (r : Prepared). r .scale .least) (u .is);
+      bound = ap (λ (r : Prepared). r .scale .bound) (u .is);
       highest = ap (λ (r : Prepared). r .highest) (u .is);
     }
 

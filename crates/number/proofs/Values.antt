@@ -123,17 +123,17 @@ module _ {f : Format} (a : Admitted f) where
     canonical-within h = mul-le-mul (omega (arith, c .small)) (pow-mono (a .base-low) h)
 
     pub canonical-beyond : highestPlace f < k → greatest f < m * f .base ^ k
-    canonical-beyond h = ⊎-elim (λ e. absurd (omega arith)) (λ full. beyond full) (c .full)
+    canonical-beyond h = ⊎-elim (λ e. absurd (omega arith)) (λ least. beyond least) (c .normal)
       where
         beyond : f .base ^ f .digits ≤ f .base * m → greatest f < m * f .base ^ k
-        beyond full =
-            let one : f .base ^ f .digits * f .base ^ highestPlace f ≤ f .base * m * f .base ^ (k - 1) = mul-le-mul full (pow-mono (a .base-low) (omega arith)) in
+        beyond least =
+            let one : f .base ^ f .digits * f .base ^ highestPlace f ≤ f .base * m * f .base ^ (k - 1) = mul-le-mul least (pow-mono (a .base-low) (omega arith)) in
             omega (arith, greatest-below, pow-add (f .base) (f .digits) (highestPlace f), ap (λ (q : ℕ). m * q) (pow-pred (f .base) {k = k} (omega arith)))
 
   -- ---- a number of the format
   module _ {x : Number} (i : Member f x) where
     pub member-canonical : Canonical (f .base) (f .digits) (x .significand) (placeOf f x)
-    member-canonical = record { small = i .significand-high; full = by (leb (f .base ^ (f .digits - 1)) (x .significand)) refl }
+    member-canonical = record { small = i .significand-high; normal = by (leb (f .base ^ (f .digits - 1)) (x .significand)) refl }
       where
         by : (t : Bool) → leb (f .base ^ (f .digits - 1)) (x .significand) ≡ t → (placeOf f x ≡ 0) ⊎ (f .base ^ f .digits ≤ f .base * x .significand)
         by true l =
@@ -205,7 +205,7 @@ module _ {f : Format} (a : Admitted f) where
           significand-high = c .small;
           exponent-low = within .0;
           exponent-high = within .1;
-          small-place = λ s. at-least (c .full) s;
+          small-place = λ s. at-least (c .normal) s;
           zero-sign = λ z. ap (λ (t : Bool). not t && negative) (eq-eqb n 0 (none z));
         }
       where

@@ -42,8 +42,8 @@ further refusal test (Ready q) = unless (test q) (Refused refusal) (Ready q)
 -- x is in the format that was prepared
 unfoldable pub memberOf : Prepared → Number → Bool
 memberOf q x =
-    leb (q .scale .full) (x .significand) and ltb (x .significand) (q .scale .top) and leZ (q .format .emin) (x .exponent) and leZ (x .exponent) (q .format .emax)
-    or equalZ (x .exponent) (q .format .emin) and cond (eqb (x .significand) 0) (not (x .negative)) (ltb (x .significand) (q .scale .full))
+    leb (q .scale .least) (x .significand) and ltb (x .significand) (q .scale .bound) and leZ (q .format .emin) (x .exponent) and leZ (x .exponent) (q .format .emax)
+    or equalZ (x .exponent) (q .format .emin) and cond (eqb (x .significand) 0) (not (x .negative)) (ltb (x .significand) (q .scale .least))
 
 -- the format, prepared, or the first of these refusals
 unfoldable pub entered : Format → (directions : List ℕ) (numbers : List Number) → Preparation

@@ -11,8 +11,8 @@ pub fn is_member(prepared: Prepared, x: Number) -> bool
     let m = x.significand;
     let e = x.exponent;
     let emin = prepared.format.emin;
-    if (prepared.scale.full <= m)
-        & (m < prepared.scale.top)
+    if (prepared.scale.least <= m)
+        & (m < prepared.scale.bound)
         & (emin <= e)
         & (e <= prepared.format.emax)
     {
@@ -24,5 +24,5 @@ pub fn is_member(prepared: Prepared, x: Number) -> bool
     if m == 0 {
         return !x.negative;
     }
-    m < prepared.scale.full
+    m < prepared.scale.least
 }

@@ -27,44 +27,44 @@ count-le {β} {n} hβ c q l m =
     le-of-suc-le-suc (lt-of-not-le (λ (k : suc q ≤ c). omega (arith, pow-mono hβ k, pow-succ' β q, mul-le-mul-left β m)))
 
 module _ {s : Scale} (h : Scaled s) where
-  pub square : s .top * s .top ≡ s .base ^ (2 * s .digits)
-  square = rw (h .top-power) (sym (pow-add (s .base) (s .digits) (s .digits)) ∙ power-at (s .base) (omega arith))
+  pub square : s .bound * s .bound ≡ s .base ^ (2 * s .digits)
+  square = rw (h .bound-power) (sym (pow-add (s .base) (s .digits) (s .digits)) ∙ power-at (s .base) (omega arith))
 
   pub square-most : s .base ^ (2 * s .digits) ≤ greatestPower * greatestPower
-  square-most = omega (arith, square, mul-le-mul (h .top-most) (h .top-most))
+  square-most = omega (arith, square, mul-le-mul (h .bound-most) (h .bound-most))
 
   -- every power up to twice the digits fits
   pub power-most : {k : ℕ} → k ≤ 2 * s .digits → s .base ^ k ≤ greatestPower * greatestPower
   power-most l = omega (arith, square-most, pow-mono (h .base-least) l)
 
   -- a power above the digits
-  pub power-beyond : {k w : ℕ} → s .digits ≤ k → w ≡ s .base ^ (k - s .digits) → s .top * w ≡ s .base ^ k
+  pub power-beyond : {k w : ℕ} → s .digits ≤ k → w ≡ s .base ^ (k - s .digits) → s .bound * w ≡ s .base ^ k
   power-beyond {k} l e =
-      ap₂ _*_ (h .top-power) e ∙ sym (pow-add (s .base) (s .digits) (k - s .digits)) ∙ power-at (s .base) (omega arith)
+      ap₂ _*_ (h .bound-power) e ∙ sym (pow-add (s .base) (s .digits) (k - s .digits)) ∙ power-at (s .base) (omega arith)
 
-  pub full-top : s .top ≡ s .base * s .full
-  full-top = h .top-power ∙ pow-pred (s .base) (h .digits-least) ∙ ap (λ (n : ℕ). s .base * n) (sym (h .full-power))
+  pub least-bound : s .bound ≡ s .base * s .least
+  least-bound = h .bound-power ∙ pow-pred (s .base) (h .digits-least) ∙ ap (λ (n : ℕ). s .base * n) (sym (h .least-power))
 
-  pub full-most : s .full ≤ s .top
-  full-most = omega (arith, full-top, mul-le-mul-right (s .full) (h .base-least))
+  pub least-most : s .least ≤ s .bound
+  least-most = omega (arith, least-bound, mul-le-mul-right (s .least) (h .base-least))
 
-  pub unit-top : {unit shift : ℕ} → Unit s unit shift → unit * s .top ≡ s .base ^ (s .digits + shift)
-  unit-top {unit} {shift} u = rw (u .is, h .top-power, pow-add (s .base) (s .digits) shift) (omega arith)
+  pub unit-bound : {unit shift : ℕ} → Unit s unit shift → unit * s .bound ≡ s .base ^ (s .digits + shift)
+  unit-bound {unit} {shift} u = rw (u .is, h .bound-power, pow-add (s .base) (s .digits) shift) (omega arith)
 
-  pub unit-most : {unit shift : ℕ} → Unit s unit shift → unit ≤ s .top
-  unit-most u = omega (arith, u .is, h .top-power, pow-mono (h .base-least) (u .most))
+  pub unit-most : {unit shift : ℕ} → Unit s unit shift → unit ≤ s .bound
+  unit-most u = omega (arith, u .is, h .bound-power, pow-mono (h .base-least) (u .most))
 
-  pub full-unit : Unit s (s .full) (s .digits - 1)
-  full-unit = record { is = h .full-power; most = omega arith }
+  pub least-unit : Unit s (s .least) (s .digits - 1)
+  least-unit = record { is = h .least-power; most = omega arith }
 
-  -- a number below top * top has at most twice the digits
-  pub count-most : {n c : ℕ} → s .base ^ c ≤ s .base * n → n < s .top * s .top → c ≤ 2 * s .digits
+  -- a number below bound * bound has at most twice the digits
+  pub count-most : {n c : ℕ} → s .base ^ c ≤ s .base * n → n < s .bound * s .bound → c ≤ 2 * s .digits
   count-most {n} {c} l m = count-le (h .base-least) c (2 * s .digits) l (omega (arith, square))
 
   -- one digit more, where the power is at most n
-  pub count-room : {n : ℕ} (c : ℕ) → s .base ^ c ≤ n → n < s .top * s .top → c + 1 ≤ 2 * s .digits
+  pub count-room : {n : ℕ} (c : ℕ) → s .base ^ c ≤ n → n < s .bound * s .bound → c + 1 ≤ 2 * s .digits
   count-room {n} c l m = count-most (omega (arith, power-next (s .base) c, mul-le-mul-right (s .base) l)) m
 
   -- the digits are few against the limits on places
   pub digits-most : s .digits ≤ 100
-  digits-most = pow-le-cancel {β = 2} (omega arith) (s .digits) 100 (omega (arith, h .top-power, h .top-most, pow-le-pow-left (h .base-least) (s .digits)))
+  digits-most = pow-le-cancel {β = 2} (omega arith) (s .digits) 100 (omega (arith, h .bound-power, h .bound-most, pow-le-pow-left (h .base-least) (s .digits)))

@@ -14,7 +14,7 @@ ghost use Rattle.rounding.specs.Cut.{cutOf, exactly, dropped};
 
 // `n` with `j` digits more: nothing is cut off.
 fn extend(scale: Scale, n: u64, j: u32, place: u32) -> Cut
-    requires { ⌜ Scaled scale × (n * scale .base ^ j < scale .top) × (j ≤ 2 * scale .digits) ⌝ }
+    requires { ⌜ Scaled scale × (n * scale .base ^ j < scale .bound) × (j ≤ 2 * scale .digits) ⌝ }
     ensures { λ r. ⌜ r ≡ exactly (n * scale .base ^ j) place ⌝ }
 {
     let steps = (n * power(scale, j)) as Significand;
@@ -27,7 +27,7 @@ fn extend(scale: Scale, n: u64, j: u32, place: u32) -> Cut
 
 // `n` divided by `divisor`: the whole steps, and where the rest lies.
 pub fn divide(scale: Scale, n: u64, divisor: u64, place: u32) -> Cut
-    requires { ⌜ Scaled scale × (1 ≤ divisor) × (divisor ≤ 2 ^ 63) × (n < scale .top * divisor) ⌝ }
+    requires { ⌜ Scaled scale × (1 ≤ divisor) × (divisor ≤ 2 ^ 63) × (n < scale .bound * divisor) ⌝ }
     ensures { λ r. ⌜ r ≡ dropped n divisor place ⌝ }
 {
     let steps = (n / divisor) as Significand;
@@ -61,13 +61,13 @@ fn cut_small(scale: Scale, n: u64, count: u32, up: u32, down: u32) -> Cut
 // The cut of n * base ^ up / base ^ down, where n has `digits` + `shift` digits or one more: unit = base ^ shift is at hand, or the
 // divisor next to it.
 pub fn cut_long(scale: Scale, n: u64, up: u32, down: u32, unit: u64, shift: u32) -> Cut
-    requires { ⌜ Scaled scale × Unit scale unit shift × (unit * scale .full ≤ n) × (n < unit * scale .top * scale .base) × (n < scale .top * scale .top)
+    requires { ⌜ Scaled scale × Unit scale unit shift × (unit * scale .least ≤ n) × (n < unit * scale .bound * scale .base) × (n < scale .bound * scale .bound)
         × (up < 2 ^ 30) × (down < 2 ^ 30) ⌝ }
     ensures { λ r. ⌜ r ≡ cutOf (scale .base) (scale .digits) (n * scale .base ^ up) (scale .base ^ down) ⌝ }
 {
     let mut divisor = unit;
     let mut beyond = shift;
-    if unit * scale.top as u64 <= n {
+    if unit * scale.bound as u64 <= n {
         divisor = unit * scale.base as u64;
         beyond = shift + 1;
     }
@@ -80,7 +80,7 @@ pub fn cut_long(scale: Scale, n: u64, up: u32, down: u32, unit: u64, shift: u32)
 
 // The cut of n * base ^ up / base ^ down. The digits of n are counted.
 pub fn cut(scale: Scale, n: u64, up: u32, down: u32) -> Cut
-    requires { ⌜ Scaled scale × (n < scale .top * scale .top) × (up < 2 ^ 30) × (down < 2 ^ 30) ⌝ }
+    requires { ⌜ Scaled scale × (n < scale .bound * scale .bound) × (up < 2 ^ 30) × (down < 2 ^ 30) ⌝ }
     ensures { λ r. ⌜ r ≡ cutOf (scale .base) (scale .digits) (n * scale .base ^ up) (scale .base ^ down) ⌝ }
 {
     if n == 0 {

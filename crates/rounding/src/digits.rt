@@ -15,10 +15,10 @@ fn power_within(scale: Scale, k: u32) -> Significand
         return 1;
     }
     if k == scale.digits {
-        return scale.top;
+        return scale.bound;
     }
     if k + 1 == scale.digits {
-        return scale.full;
+        return scale.least;
     }
     format::powers::power(scale.base, k)
 }
@@ -32,7 +32,7 @@ pub fn power(scale: Scale, k: u32) -> u64
     if k <= digits {
         return power_within(scale, k) as u64;
     }
-    scale.top as u64 * power_within(scale, k - digits) as u64
+    scale.bound as u64 * power_within(scale, k - digits) as u64
 }
 
 // The digits of `n` in base 2, which are its bits.
@@ -45,7 +45,7 @@ fn bit_count(n: u64) -> u32
 
 // The digits of `n`. A number of at least `digits` digits needs no search from the start.
 pub fn digit_count(scale: Scale, n: u64) -> u32
-    requires { ⌜ Scaled scale × (1 ≤ n) × (n < scale .top * scale .top) ⌝ }
+    requires { ⌜ Scaled scale × (1 ≤ n) × (n < scale .bound * scale .bound) ⌝ }
     ensures { λ r. ⌜ Digits (scale .base) n r ⌝ }
 {
     let base = scale.base as u64;
@@ -54,8 +54,8 @@ pub fn digit_count(scale: Scale, n: u64) -> u32
     }
     let mut bound: u64 = base;
     let mut count: u32 = 1;
-    if scale.full as u64 <= n {
-        bound = scale.top as u64;
+    if scale.least as u64 <= n {
+        bound = scale.bound as u64;
         count = scale.digits;
     }
     while bound <= n {

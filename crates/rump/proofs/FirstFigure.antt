@@ -61,9 +61,9 @@ module _ {f : Format} {n : ℕ} (k : First f n) where
   phi-most : phi f ≤ greatest f
   phi-most =
       let j : ℕ = f .digits - 1 in
-      let top : f .base ^ j + 1 ≤ f .base ^ f .digits =
+      let bound : f .base ^ j + 1 ≤ f .base ^ f .digits =
       omega (arith, pow-pred (f .base) (k .admits .digits-low), mul-le-mul-right (f .base ^ j) (k .admits .base-low), pow-pos (k .admits .base-low) j) in
-      le-trans (mul-le-mul-right (one f) top) (constant-most (k .admits) (k .reach) (f .digits) (omega arith))
+      le-trans (mul-le-mul-right (one f) bound) (constant-most (k .admits) (k .reach) (f .digits) (omega arith))
 
   phi-is : sum (f .base) (f .digits) TowardZero (pos (f .base ^ (f .digits - 1) * one f)) (pos (one f)) ≡ pos (phi f)
   phi-is =

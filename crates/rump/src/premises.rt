@@ -62,11 +62,11 @@ fn last_premise(prepared: Prepared, x: Number) -> bool
     if !exponents_suffice(prepared) {
         return false;
     }
-    let top = prepared.scale.top;
+    let bound = prepared.scale.bound;
     if x.significand == 0 {
         return false;
     }
-    let greatest = number_at(prepared, false, top - 1, prepared.highest);
+    let greatest = number_at(prepared, false, bound - 1, prepared.highest);
     is_smaller(prepared.format, x, greatest)
 }
 

@@ -54,7 +54,7 @@ module _ (p : ℕ) (xs : List ℕ) (h : p < length xs) where
       by (no a) (yes b) = omega (arith, without-low p xs j (omega arith), without-high p xs k b, r j (suc k) (omega arith) (omega (arith, without-length p xs h)))
       by (no a) (no b) = omega (arith, without-low p xs j (omega arith), without-low p xs k (omega arith), r j k l (omega (arith, without-length p xs h)))
 
-  without-most : {top : ℕ} → ((k : ℕ) → k < length xs → getD xs k 0 < top) → (k : ℕ) → k < length (without p xs) → getD (without p xs) k 0 < top
+  without-most : {bound : ℕ} → ((k : ℕ) → k < length xs → getD xs k 0 < bound) → (k : ℕ) → k < length (without p xs) → getD (without p xs) k 0 < bound
   without-most b k m = let e = elsewhere k m in omega (arith, e .is, b (e .place) (e .inside))
 
 -- ---- the positions found rise

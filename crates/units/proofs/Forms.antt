@@ -21,34 +21,34 @@ less-one {m} q h = let e : m ≡ m - 1 + 1 = omega arith in sym (ap (λ (i : ℕ
 module _ {β p : ℕ} (ok : Positional β p) where
   -- ---- powers of the base
   pub power-low : {k : ℕ} → k < p → Canonical β p (β ^ k) 0
-  power-low h = record { small = pow-lt (ok .base) h; full = inl refl }
+  power-low h = record { small = pow-lt (ok .base) h; normal = inl refl }
 
   pub power-high : (k : ℕ) → Canonical β p (β ^ (p - 1)) k
-  power-high k = record { small = pow-lt (ok .base) (omega (arith, ok .digits)); full = inr (omega (arith, pow-pred β (ok .digits))) }
+  power-high k = record { small = pow-lt (ok .base) (omega (arith, ok .digits)); normal = inr (omega (arith, pow-pred β (ok .digits))) }
 
   pub power-split : (k : ℕ) → p ≤ k → β ^ (p - 1) * β ^ (k + 1 - p) ≡ β ^ k
   power-split k h = sym (pow-add β (p - 1) (k + 1 - p)) ∙ ap (λ (i : ℕ). β ^ i) (omega (arith, ok .digits))
 
   module _ {m k : ℕ} (c : Canonical β p m k) where
     -- all p digits, where the place is not the least
-    pub full-digits : 1 ≤ k → β ^ (p - 1) ≤ m
-    full-digits h =
+    pub least-digits : 1 ≤ k → β ^ (p - 1) ≤ m
+    least-digits h =
         ⊎-elim (λ e. absurd (omega arith))
         (λ (l : β ^ p ≤ β * m). le-of-mul-le-mul-left (subst (λ (q : ℕ). q ≤ β * m) (pow-pred β (ok .digits)) l) (omega (arith, ok .base)))
-        (c .full)
+        (c .normal)
 
     -- ---- the first place has the number's own exponent
     pub first-canonical : Canonical β p (ufp β m) k
     first-canonical =
         record {
           small = omega (arith, ufp-le (ok .base) m, c .small);
-          full = by k refl;
+          normal = by k refl;
         }
       where
         by : (j : ℕ) → k ≡ j → (j ≡ 0) ⊎ (β ^ p ≤ β * ufp β m)
         by zero e = inl refl
         by (suc j) e =
-            inr (rw (pow-pred β (ok .digits)) (mul-le-mul-left β (ufp-greatest (ok .base) m (p - 1) (full-digits (omega arith)))))
+            inr (rw (pow-pred β (ok .digits)) (mul-le-mul-left β (ufp-greatest (ok .base) m (p - 1) (least-digits (omega arith)))))
 
     -- ---- the next greater magnitude
     pub next-size : upper β p (suc (m * β ^ k)) ≡ suc m * β ^ k
@@ -56,7 +56,7 @@ module _ {β p : ℕ} (ok : Positional β p) where
       where
         by : (n : ℕ) → m ≡ n → upper β p (suc (m * β ^ k)) ≡ suc m * β ^ k
         by zero e =
-            let least : k ≡ 0 = ⊎-elim (λ z. z) (λ (l : β ^ p ≤ β * m). absurd (omega (arith, pow-pos (ok .base) p, ap (λ (n : ℕ). β * n) e))) (c .full) in
+            let least : k ≡ 0 = ⊎-elim (λ z. z) (λ (l : β ^ p ≤ β * m). absurd (omega (arith, pow-pos (ok .base) p, ap (λ (n : ℕ). β * n) e))) (c .normal) in
             let unit : β ^ k ≡ 1 = ap (λ (i : ℕ). β ^ i) least ∙ pow-zero β in
             ap (upper β p) (omega (arith, ap (λ (n : ℕ). n * β ^ k) e)) ∙ upper-exact ok 1 (subst (Wide β p) (pow-zero β) (wide-pow ok 0))
             ∙ omega (arith, ap (λ (n : ℕ). n * β ^ k) e)
@@ -69,7 +69,7 @@ module _ {β p : ℕ} (ok : Positional β p) where
             some e = omega arith
 
     pub next-canonical : suc m < β ^ p → Canonical β p (suc m) k
-    next-canonical h = record { small = h; full = ⊎-elim inl (λ (l : β ^ p ≤ β * m). inr (omega (arith, ok .base))) (c .full) }
+    next-canonical h = record { small = h; normal = ⊎-elim inl (λ (l : β ^ p ≤ β * m). inr (omega (arith, ok .base))) (c .normal) }
 
     -- past the last significand: the first one at the next place
     pub carry-size : suc m ≡ β ^ p → β ^ (p - 1) * β ^ (k + 1) ≡ suc m * β ^ k
@@ -89,7 +89,7 @@ module _ {β p : ℕ} (ok : Positional β p) where
       before-canonical low =
           record {
             small = omega (arith, c .small);
-            full = ⊎-elim inl (λ (l : β ^ (p - 1) < m). inr (rw (pow-pred β (ok .digits)) (mul-le-mul-left β (omega arith)))) low;
+            normal = ⊎-elim inl (λ (l : β ^ (p - 1) < m). inr (rw (pow-pred β (ok .digits)) (mul-le-mul-left β (omega arith)))) low;
           }
 
     -- below a power of the base, where the step is the smaller one
@@ -105,5 +105,5 @@ module _ {β p : ℕ} (ok : Positional β p) where
       below-canonical =
           record {
             small = omega (arith, pow-pos (ok .base) p);
-            full = inr (omega (arith, mul-le-mul-right (β ^ p - 1) (ok .base), pow-zero β, pow-half (ok .base) {i = 0} {j = p} (ok .digits)));
+            normal = inr (omega (arith, mul-le-mul-right (β ^ p - 1) (ok .base), pow-zero β, pow-half (ok .base) {i = 0} {j = p} (ok .digits)));
           }

@@ -22,8 +22,8 @@ fn away(prepared: Prepared, x: Number, negative: bool) -> NumberAnswer
 {
     let place = place_of(prepared, x);
     let next = x.significand + 1;
-    if next == prepared.scale.top {
-        return deliver(prepared, negative, prepared.scale.full, place + 1);
+    if next == prepared.scale.bound {
+        return deliver(prepared, negative, prepared.scale.least, place + 1);
     }
     deliver(prepared, negative, next, place)
 }
@@ -38,8 +38,8 @@ fn toward(prepared: Prepared, x: Number, negative: bool) -> NumberAnswer
     if place == 0 {
         return deliver(prepared, negative, m - 1, place);
     }
-    if m == prepared.scale.full {
-        return deliver(prepared, negative, prepared.scale.top - 1, place - 1);
+    if m == prepared.scale.least {
+        return deliver(prepared, negative, prepared.scale.bound - 1, place - 1);
     }
     deliver(prepared, negative, m - 1, place)
 }

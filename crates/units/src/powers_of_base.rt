@@ -22,16 +22,16 @@ pub fn power_number(prepared: Prepared, k: u32) -> Number
         let significand = format::powers::power(prepared.scale.base, k);
         return number_at(prepared, false, significand, 0);
     }
-    number_at(prepared, false, prepared.scale.full, k + 1 - digits)
+    number_at(prepared, false, prepared.scale.least, k + 1 - digits)
 }
 
 // The greatest power of the base that is at most m; 0 at 0.
 pub fn leading_power(scale: Scale, m: Significand) -> Significand
-    requires { ⌜ Scaled scale × (m < scale .top) ⌝ }
+    requires { ⌜ Scaled scale × (m < scale .bound) ⌝ }
     ensures { λ r. ⌜ r ≡ ufp (scale .base) m ⌝ }
 {
-    if scale.full <= m {
-        return scale.full;
+    if scale.least <= m {
+        return scale.least;
     }
     if m == 0 {
         return 0;

@@ -3,7 +3,7 @@ use Rattle.theory.proofs.Prelude.{ℕ, _≤_, _<_, _+_, _^_, _*_, _-_, suc, zer
 use native.Mathlib.Nat.{div-le-self}
 use Rattle.theory.specs.Place.{Positional, place}
 use Rattle.theory.proofs.Powers.{pow-add, pow-pos, pow-mono, pow-half}
-use Rattle.theory.proofs.Place.{place-fits, place-le, full}
+use Rattle.theory.proofs.Place.{place-fits, place-le, above-power}
 use Rattle.format.specs.declared.Scale.{Scale}
 use Rattle.format.specs.Formats.{Scaled}
 use Rattle.rounding.specs.declared.Cut.{Cut}
@@ -13,7 +13,7 @@ use Rattle.rounding.specs.Cut.{cutOf}
 use Rattle.rounding.specs.Location.{located}
 use Rattle.rounding.proofs.Locations.{located-exact, located-below}
 use Rattle.rounding.proofs.Places.{cut-is}
-use Rattle.rounding.proofs.Scales.{positional, power-at, full-top}
+use Rattle.rounding.proofs.Scales.{positional, power-at, least-bound}
 use Rattle.wide.specs.declared.long_division.Division.{Division}
 use Rattle.wide.proofs.Digits.{taken-exact}
 use Rattle.wide.specs.Division.{Start, Quotient, Taken, Ended, all-digits, lowest-place, no-rest}
@@ -59,7 +59,7 @@ module _ {β p : ℕ} (ok : Positional β p) where
 
     pub quotient-cut : q < β ^ p → (k ≡ 0) ⊎ (β ^ p ≤ β * q) → cutOf β p N D ≡ record { steps = q; place = k; location = located r w }
     quotient-cut h e =
-        cut-is ok hD q r w w (D * β ^ k) (record { below = below h; full = by e }) (omega (arith, v .rest)) size (v .exact) (omega arith) (v .rest)
+        cut-is ok hD q r w w (D * β ^ k) (record { below = below h; normal = by e }) (omega (arith, v .rest)) size (v .exact) (omega arith) (v .rest)
       where
         by : (k ≡ 0) ⊎ (β ^ p ≤ β * q) → (k ≡ 0) ⊎ (β ^ (p + k) * D ≤ β * N)
         by (inl z) = inl z
@@ -71,7 +71,7 @@ module _ {β p : ℕ} (ok : Positional β p) where
   cut-whole M D hD =
       let s : ℕ = β ^ place β p M in
       cut-is ok hD (M / s) (M % s) s 1 D
-      (record { below = mul-lt-mul-of-pos-right (place-fits ok M) hD; full = by (place β p M) (λ j l. full ok {n = M} {k = j} l) })
+      (record { below = mul-lt-mul-of-pos-right (place-fits ok M) hD; normal = by (place β p M) (λ j l. above-power ok {n = M} {k = j} l) })
       (omega arith) hD (omega (arith, ap (λ (x : ℕ). x * D) (div-add-mod' M s))) (omega arith) (mod-lt M (pow-pos (ok .base) (place β p M)))
     where
       by : (k : ℕ) → ((j : ℕ) → j < k → β ^ (p + j) ≤ M) → (k ≡ 0) ⊎ (β ^ (p + k) * D ≤ β * (M * D))
@@ -107,10 +107,10 @@ module _ {β p : ℕ} (ok : Positional β p) where
       (located-below (n * β ^ up) D (λ z. omega (arith, mul-pos hn (pow-pos (ok .base) up))) small)
 
 -- at the first two ends all digits stand, or the place is the lowest
-pub ended-full : {s : Scale} {v : Division} → Scaled s → Ended s v → v .remainder ≢ 0 → (v .place ≡ 0) ⊎ (s .base ^ s .digits ≤ s .base * v .quotient)
-ended-full {s} {v} h (all-digits l) r = inr (omega (arith, full-top h, h .top-power, mul-le-mul-left (s .base) l))
-ended-full h (lowest-place z) r = inl z
-ended-full h (no-rest z) r = absurd (r z)
+pub ended-least : {s : Scale} {v : Division} → Scaled s → Ended s v → v .remainder ≢ 0 → (v .place ≡ 0) ⊎ (s .base ^ s .digits ≤ s .base * v .quotient)
+ended-least {s} {v} h (all-digits l) r = inr (omega (arith, least-bound h, h .bound-power, mul-le-mul-left (s .base) l))
+ended-least h (lowest-place z) r = inl z
+ended-least h (no-rest z) r = absurd (r z)
 
 -- the place of a fraction of 32 bits is small
 module _ {s : Scale} (h : Scaled s) (n d up down : ℕ) {c : Cut}

@@ -71,11 +71,11 @@ module _ {w n : ℕ} (β : ℕ) (h : n < w) where
       record { quotient = both .0; remainder = both .1; within = omega (arith, t .within) }
 
 -- a group of digits is below its unit, and the quotient has room for it
-pub record Turn (unit top w q r : ℕ) : Type 0 where
+pub record Turn (unit bound w q r : ℕ) : Type 0 where
   pub group : r * unit / w < unit
-  pub next : q * unit + r * unit / w < top
+  pub next : q * unit + r * unit / w < bound
 
-pub turn-is : {unit top w q r : ℕ} → 1 ≤ unit → (q + 1) * unit ≤ top → r < w → Turn unit top w q r
+pub turn-is : {unit bound w q r : ℕ} → 1 ≤ unit → (q + 1) * unit ≤ bound → r < w → Turn unit bound w q r
 turn-is h room l = let g = goes-into l h in record { group = g; next = omega (arith, g) }
 
 -- each digit is one of the quotient's, but for the zeros before the first

@@ -17,8 +17,8 @@ use Rattle.wide.proofs.Sizes.{greatest-below}
 
 -- a cut's steps fit the digits, and its place is small where the value is
 module _ {s : Scale} (h : Scaled s) (N D : ℕ) (hD : 1 ≤ D) {c : Cut} (e : c ≡ cutOf (s .base) (s .digits) N D) where
-  pub steps-fit : c .steps < s .top
-  steps-fit = rw (e, h .top-power) (cut-canonical (positional h) N D hD .small)
+  pub steps-fit : c .steps < s .bound
+  steps-fit = rw (e, h .bound-power) (cut-canonical (positional h) N D hD .small)
 
   pub place-fit : (k : ℕ) → N ≤ (s .base ^ s .digits - 1) * s .base ^ k → c .place ≤ k
   unfolding cutOf
@@ -31,6 +31,6 @@ rounds-zero {β} {p} ok d negative D hD e =
     rw e
     (record {
       sign = refl;
-      canonical = record { small = pow-pos (ok .base) p; full = inl refl };
+      canonical = record { small = pow-pos (ok .base) p; normal = inl refl };
       size = zero-mul (β ^ 0) ∙ sym (round-exact ok 0 hD d negative 0 (wide-zero ok) (omega arith));
     })

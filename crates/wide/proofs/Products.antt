@@ -7,10 +7,10 @@ use Rattle.rounding.specs.declared.Wide.{Wide}
 use Rattle.wide.specs.Operand.{Bounded, sizeOf}
 
 module _ {s : Scale} (h : Scaled s) {x y : Wide} (hx : Bounded s x) (hy : Bounded s y) where
-  pub product-small : x .significand * y .significand < s .top * s .top
+  pub product-small : x .significand * y .significand < s .bound * s .bound
   product-small =
-      let x-most : suc (x .significand) ≤ s .top = omega (arith, hx .canonical .small, h .top-power) in
-      let y-most : suc (y .significand) ≤ s .top = omega (arith, hy .canonical .small, h .top-power) in
+      let x-most : suc (x .significand) ≤ s .bound = omega (arith, hx .canonical .small, h .bound-power) in
+      let y-most : suc (y .significand) ≤ s .bound = omega (arith, hy .canonical .small, h .bound-power) in
       omega (arith, mul-le-mul x-most y-most)
 
   pub product-value : (up : ℕ) → x .significand * y .significand * s .base ^ (x .place + y .place + up) ≡ sizeOf (s .base) x * sizeOf (s .base) y * s .base ^ up

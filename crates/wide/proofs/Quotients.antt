@@ -13,7 +13,7 @@ use Rattle.rounding.specs.Digits.{Digits}
 use Rattle.rounding.specs.Location.{located}
 use Rattle.rounding.proofs.Locations.{located-scaled, located-below}
 use Rattle.rounding.proofs.Places.{Placed, cut-is, extend-small}
-use Rattle.rounding.proofs.Scales.{positional, power-at, count-le, full-top, power-one}
+use Rattle.rounding.proofs.Scales.{positional, power-at, count-le, least-bound, power-one}
 use Rattle.wide.specs.Quotient.{Leading, Shifted}
 
 -- a factor that numerator and denominator share changes nothing
@@ -31,60 +31,60 @@ count-some β zero some l = absurd (omega (arith, pow-zero β))
 count-some β (suc c) some l = omega arith
 
 module _ {s : Scale} (h : Scaled s) where
-  full-pos : 1 ≤ s .full
-  full-pos = omega (arith, h .full-power, pow-pos (h .base-least) (s .digits - 1))
+  least-pos : 1 ≤ s .least
+  least-pos = omega (arith, h .least-power, pow-pos (h .base-least) (s .digits - 1))
 
   pub leading-pos : {a : ℕ} → Leading s a → 1 ≤ a
-  leading-pos l = omega (arith, full-pos, l .least)
+  leading-pos l = omega (arith, least-pos, l .least)
 
   -- a significand with all its digits leads with a digit that is not 0
-  leads : {a : ℕ} → Leading s a → s .top ≤ s .base * a
-  leads l = omega (arith, full-top h, mul-le-mul-left (s .base) (l .least))
+  leads : {a : ℕ} → Leading s a → s .bound ≤ s .base * a
+  leads l = omega (arith, least-bound h, mul-le-mul-left (s .base) (l .least))
 
-  pub digits-fit : {m c : ℕ} → Digits (s .base) m c → m < s .top → c ≤ s .digits
-  digits-fit {m} {c} d small = count-le (h .base-least) c (s .digits) (d .above) (omega (arith, h .top-power))
+  pub digits-fit : {m c : ℕ} → Digits (s .base) m c → m < s .bound → c ≤ s .digits
+  digits-fit {m} {c} d small = count-le (h .base-least) c (s .digits) (d .above) (omega (arith, h .bound-power))
 
-  shifted-power : {m c : ℕ} → Digits (s .base) m c → 1 ≤ m → m < s .top → Shifted s m (m * s .base ^ (s .digits - c)) (s .digits - c)
+  shifted-power : {m c : ℕ} → Digits (s .base) m c → 1 ≤ m → m < s .bound → Shifted s m (m * s .base ^ (s .digits - c)) (s .digits - c)
   shifted-power {m} {c} d some small =
-      let top : s .top ≡ s .base ^ s .digits = h .top-power in
+      let bound : s .bound ≡ s .base ^ s .digits = h .bound-power in
       let fits : c ≤ s .digits = digits-fit d small in
       let split : s .base ^ s .digits ≡ s .base ^ c * s .base ^ (s .digits - c) =
       power-at (s .base) (omega arith) ∙ pow-add (s .base) c (s .digits - c) in
       record {
         is = refl;
         leading = record {
-          least = le-of-mul-le-mul-left {k = s .base} (omega (arith, full-top h, mul-le-mul-right (s .base ^ (s .digits - c)) (d .above))) (omega (arith, h .base-least));
+          least = le-of-mul-le-mul-left {k = s .base} (omega (arith, least-bound h, mul-le-mul-right (s .base ^ (s .digits - c)) (d .above))) (omega (arith, h .base-least));
           most = omega (arith, extend-small (positional h) d (s .digits - c) (omega arith));
         };
         shift-most = omega (arith, h .digits-least, count-some (s .base) c some (d .below));
       }
 
-  pub shifted : {m c : ℕ} → Digits (s .base) m c → 1 ≤ m → m < s .top → {w : ℕ} → w ≡ s .base ^ (s .digits - c) → Shifted s m (m * w) (s .digits - c)
+  pub shifted : {m c : ℕ} → Digits (s .base) m c → 1 ≤ m → m < s .bound → {w : ℕ} → w ≡ s .base ^ (s .digits - c) → Shifted s m (m * w) (s .digits - c)
   shifted {m} {c} d some small e =
       rw e (shifted-power d some small)
 
   -- i digits more bring a to p digits before the point of a / b
   pub record Kept (a b i : ℕ) : Type 0 where
-    pub below : a * s .base ^ i < b * s .top
-    pub above : b * s .top ≤ s .base * (a * s .base ^ i)
+    pub below : a * s .base ^ i < b * s .bound
+    pub above : b * s .bound ≤ s .base * (a * s .base ^ i)
 
   module _ {a b : ℕ} (la : Leading s a) (lb : Leading s b) where
     pub kept-less : b ≤ a → Kept a b (s .digits - 1)
     kept-less l =
-        let unit : a * s .base ^ (s .digits - 1) ≡ a * s .full = ap (λ (v : ℕ). a * v) (sym (h .full-power)) in
+        let unit : a * s .base ^ (s .digits - 1) ≡ a * s .least = ap (λ (v : ℕ). a * v) (sym (h .least-power)) in
         let a-below : a < s .base * b = omega (arith, la .most, leads lb) in
         record {
-          below = omega (arith, unit, ap (λ (v : ℕ). b * v) (full-top h), mul-lt-mul-of-pos-right a-below full-pos);
-          above = omega (arith, ap (λ (v : ℕ). s .base * v) unit, ap (λ (v : ℕ). a * v) (full-top h), mul-le-mul-right (s .top) l);
+          below = omega (arith, unit, ap (λ (v : ℕ). b * v) (least-bound h), mul-lt-mul-of-pos-right a-below least-pos);
+          above = omega (arith, ap (λ (v : ℕ). s .base * v) unit, ap (λ (v : ℕ). a * v) (least-bound h), mul-le-mul-right (s .bound) l);
         }
 
     pub kept-more : a < b → Kept a b (s .digits)
     kept-more l =
-        let unit : a * s .base ^ s .digits ≡ a * s .top = ap (λ (v : ℕ). a * v) (sym (h .top-power)) in
+        let unit : a * s .base ^ s .digits ≡ a * s .bound = ap (λ (v : ℕ). a * v) (sym (h .bound-power)) in
         let b-most : b ≤ s .base * a = omega (arith, lb .most, leads la) in
         record {
-          below = omega (arith, unit, mul-lt-mul-of-pos-right {k = s .top} l (omega (arith, la .most)));
-          above = omega (arith, ap (λ (v : ℕ). s .base * v) unit, mul-le-mul-right (s .top) b-most);
+          below = omega (arith, unit, mul-lt-mul-of-pos-right {k = s .bound} l (omega (arith, la .most)));
+          above = omega (arith, ap (λ (v : ℕ). s .base * v) unit, mul-le-mul-right (s .bound) b-most);
         }
 
     base-times : b * s .base ^ 1 ≡ b * s .base
@@ -96,31 +96,31 @@ module _ {s : Scale} (h : Scaled s) where
 
     -- two powers less: below half
     pub under-below : (e : ℕ) → 2 ≤ e → located a (b * s .base ^ e) ≡ Below
-    under-below e l = located-below a (b * s .base ^ e) (λ z. omega (arith, full-pos, la .least)) (omega (arith, la .most, leads lb, base-times, mul-le-mul-left b (pow-half (h .base-least) {i = 1} {j = e} l)))
+    under-below e l = located-below a (b * s .base ^ e) (λ z. omega (arith, least-pos, la .least)) (omega (arith, la .most, leads lb, base-times, mul-le-mul-left b (pow-half (h .base-least) {i = 1} {j = e} l)))
 
     module _ (i : ℕ) (kept : Kept a b i) (high low : ℕ) where
       quotient-placed : (k : ℕ) → high - (low + i) ≡ k → Placed (s .base) (s .digits) (a * s .base ^ high) (b * s .base ^ low) k
       quotient-placed k e =
-          record { below = lt-of-mul-lt-mul-right (β ^ i) (omega (arith, under, reach, split)); full = by (decLe (low + i) high) }
+          record { below = lt-of-mul-lt-mul-right (β ^ i) (omega (arith, under, reach, split)); normal = by (decLe (low + i) high) }
         where
           β : ℕ
           β = s .base
 
-          split : β ^ (s .digits + k) * (b * β ^ low) * β ^ i ≡ b * s .top * β ^ (low + i + k)
-          split = rw (pow-add β (s .digits) k, pow-add β (low + i) k, pow-add β low i, h .top-power) (omega arith)
+          split : β ^ (s .digits + k) * (b * β ^ low) * β ^ i ≡ b * s .bound * β ^ (low + i + k)
+          split = rw (pow-add β (s .digits) k, pow-add β (low + i) k, pow-add β low i, h .bound-power) (omega arith)
 
-          under : a * β ^ i * β ^ high < b * s .top * β ^ high
+          under : a * β ^ i * β ^ high < b * s .bound * β ^ high
           under = mul-lt-mul-of-pos-right (kept .below) (pow-pos (h .base-least) high)
 
-          reach : b * s .top * β ^ high ≤ b * s .top * β ^ (low + i + k)
-          reach = mul-le-mul-left (b * s .top) (pow-mono (h .base-least) (omega arith))
+          reach : b * s .bound * β ^ high ≤ b * s .bound * β ^ (low + i + k)
+          reach = mul-le-mul-left (b * s .bound) (pow-mono (h .base-least) (omega arith))
 
           by : Dec (low + i ≤ high) → (k ≡ 0) ⊎ (β ^ (s .digits + k) * (b * β ^ low) ≤ β * (a * β ^ high))
           by (no l) = inl (omega arith)
           by (yes l) =
               let unit : β ^ high ≡ β ^ i * β ^ (low + k) = ap (λ (j : ℕ). β ^ j) (omega arith) ∙ pow-add β i (low + k) in
-              let front : β ^ (s .digits + k) * (b * β ^ low) ≡ b * s .top * β ^ (low + k) =
-              rw (pow-add β (s .digits) k, pow-add β low k, h .top-power) (omega arith) in
+              let front : β ^ (s .digits + k) * (b * β ^ low) ≡ b * s .bound * β ^ (low + k) =
+              rw (pow-add β (s .digits) k, pow-add β low k, h .bound-power) (omega arith) in
               inr (omega (arith, front, ap (λ (v : ℕ). β * (a * v)) unit, mul-le-mul-right (β ^ (low + k)) (kept .above)))
 
       -- j digits more, at place k

@@ -16,7 +16,7 @@ use Rattle.rounding.specs.Cut.{cutOf, Rounds}
 use Rattle.rounding.specs.Location.{located}
 use Rattle.rounding.proofs.Locations.{located-exact, located-below, located-above, located-scaled}
 use Rattle.rounding.proofs.Places.{cut-is}
-use Rattle.rounding.proofs.Scales.{positional, power-at, full-top}
+use Rattle.rounding.proofs.Scales.{positional, power-at, least-bound}
 use Rattle.rounding.specs.declared.Wide.{Wide}
 use Rattle.wide.specs.Operand.{Bounded, sizeOf, valueOf}
 use Rattle.wide.specs.Sum.{Adds, SumCut, RoundsZ, belowPower}
@@ -36,18 +36,18 @@ sum-cut-made s {z} {a} n e f =
 -- ---- the numbers overlap: w is the power that brings x to the place of y
 module _ {s : Scale} (h : Scaled s) {x y : Wide} (hx : Bounded s x) (hy : Bounded s y) (gap : ℕ) {w : ℕ}
     (at : x .place ≡ y .place + gap) (pw : w ≡ s .base ^ gap) where
-  pub near-most : gap ≤ s .digits → x .significand * w + y .significand < s .top * s .top
+  pub near-most : gap ≤ s .digits → x .significand * w + y .significand < s .bound * s .bound
   near-most l =
-      let top : s .top ≡ s .base ^ s .digits = h .top-power in
-      let w-most : w ≤ s .top = omega (arith, pow-mono (h .base-least) l) in
-      let x-most : suc (x .significand) ≤ s .top = omega (arith, hx .canonical .small) in
-      omega (arith, hy .canonical .small, mul-le-mul-left (x .significand) w-most, mul-le-mul-right (s .top) x-most)
+      let bound : s .bound ≡ s .base ^ s .digits = h .bound-power in
+      let w-most : w ≤ s .bound = omega (arith, pow-mono (h .base-least) l) in
+      let x-most : suc (x .significand) ≤ s .bound = omega (arith, hx .canonical .small) in
+      omega (arith, hy .canonical .small, mul-le-mul-left (x .significand) w-most, mul-le-mul-right (s .bound) x-most)
 
-  pub near-below : x .significand * w + y .significand < w * s .top * s .base
+  pub near-below : x .significand * w + y .significand < w * s .bound * s .base
   near-below =
       let w-some : 1 ≤ w = omega (arith, pow-pos (h .base-least) gap) in
-      let x-most : suc (x .significand) ≤ s .top = omega (arith, hx .canonical .small, h .top-power) in
-      omega (arith, hy .canonical .small, h .top-power, mul-le-mul-right w x-most, mul-le-mul-left (s .top) w-some, mul-le-mul-left (w * s .top) (h .base-least))
+      let x-most : suc (x .significand) ≤ s .bound = omega (arith, hx .canonical .small, h .bound-power) in
+      omega (arith, hy .canonical .small, h .bound-power, mul-le-mul-right w x-most, mul-le-mul-left (s .bound) w-some, mul-le-mul-left (w * s .bound) (h .base-least))
 
   near-scaled : sizeOf (s .base) x ≡ x .significand * w * s .base ^ y .place
   near-scaled = rw (at, pow-add, pw) (omega arith)
@@ -68,7 +68,7 @@ canonical-cut {β} {p} {m} {k} ok c r l =
     cut-is ok (omega arith) m r (β ^ k) 1 1
     (record {
       below = rw pow-add (omega (arith, mul-le-mul-right (β ^ k) (c .small)));
-      full = ⊎-elim inl (λ (f : β ^ p ≤ β * m). inr (rw pow-add (omega (arith, mul-le-mul-right (β ^ k) f)))) (c .full);
+      normal = ⊎-elim inl (λ (f : β ^ p ≤ β * m). inr (rw pow-add (omega (arith, mul-le-mul-right (β ^ k) f)))) (c .normal);
     })
     (omega arith) (omega arith) (omega arith) (omega arith) l
 
@@ -98,19 +98,19 @@ module _ {s : Scale} (h : Scaled s) {x y : Wide} (hx : Bounded s x) (hy : Bounde
   y-some : sizeOf (s .base) y ≢ 0
   y-some e = omega (arith, mul-pos some (pow-pos (h .base-least) (y .place)))
 
-  x-full : x .significand ≤ s .full → x .significand ≡ s .full
-  x-full l =
+  x-least : x .significand ≤ s .least → x .significand ≡ s .least
+  x-least l =
       le-antisymm l
       (⊎-elim (λ z. absurd (omega (arith, at, far)))
       (λ (f : s .base ^ s .digits ≤ s .base * x .significand).
-      le-of-mul-le-mul-left {k = s .base} (omega (arith, f, full-top h, h .top-power)) (omega (arith, h .base-least)))
-      (hx .canonical .full))
+      le-of-mul-le-mul-left {k = s .base} (omega (arith, f, least-bound h, h .bound-power)) (omega (arith, h .base-least)))
+      (hx .canonical .normal))
 
-  full-some : 1 ≤ s .full
-  full-some = omega (arith, h .full-power, pow-pos (h .base-least) (s .digits - 1))
+  least-some : 1 ≤ s .least
+  least-some = omega (arith, h .least-power, pow-pos (h .base-least) (s .digits - 1))
 
-  top-two : 2 ≤ s .top
-  top-two = omega (arith, full-top h, h .base-least, mul-le-mul-left (s .base) full-some)
+  bound-two : 2 ≤ s .bound
+  bound-two = omega (arith, least-bound h, h .base-least, mul-le-mul-left (s .base) least-some)
 
   same-location : located (s .base ^ (x .place - 1) - sizeOf (s .base) y) (s .base ^ (x .place - 1)) ≡ belowPower (s .base) (y .significand) gap
   unfolding belowPower
@@ -130,38 +130,38 @@ module _ {s : Scale} (h : Scaled s) {x y : Wide} (hx : Bounded s x) (hy : Bounde
       ∙ ap (λ (l : Location). record { steps = x .significand; place = x .place; location = l }) (located-below _ _ y-some y-half)))
 
   -- x leads with more than the power: the number before it is a step away
-  pub far-differ : Bool·beq (x .negative) (y .negative) ≡ false → s .full < x .significand
+  pub far-differ : Bool·beq (x .negative) (y .negative) ≡ false → s .least < x .significand
       → SumCut s (valueOf (s .base) x +ℤ valueOf (s .base) y) (x .negative) (record { steps = x .significand - 1; place = x .place; location = Above })
   far-differ e l =
       let n : ℕ = x .significand - 1 in
       let B : ℕ = s .base ^ x .place in
       let split : sizeOf (s .base) x ≡ (n + 1) * B = ap (λ (m : ℕ). m * B) (omega arith) in
-      let leads : s .base * s .full ≤ s .base * n = mul-le-mul-left (s .base) (omega arith) in
+      let leads : s .base * s .least ≤ s .base * n = mul-le-mul-left (s .base) (omega arith) in
       let before : Canonical (s .base) (s .digits) n (x .place) =
-      record { small = omega (arith, hx .canonical .small); full = inr (omega (arith, full-top h, h .top-power)) } in
+      record { small = omega (arith, hx .canonical .small); normal = inr (omega (arith, least-bound h, h .bound-power)) } in
       sum-cut-made s (n * B + (B - sizeOf (s .base) y))
       (sum-differ (x .negative) (y .negative) e (sizeOf (s .base) x) (sizeOf (s .base) y) (omega (arith, y-half)) ∙ ap (signed (x .negative)) (omega (arith, y-half)))
       (sym (canonical-cut (positional h) before (B - sizeOf (s .base) y) (omega (arith, y-some, y-half))
       ∙ ap (λ (l : Location). record { steps = n; place = x .place; location = l }) (located-above _ _ (omega (arith, y-half)))))
 
   -- x is a power: the numbers before it are nearer together
-  pub far-power : Bool·beq (x .negative) (y .negative) ≡ false → x .significand ≤ s .full → {l : Location} → l ≡ belowPower (s .base) (y .significand) gap
-      → SumCut s (valueOf (s .base) x +ℤ valueOf (s .base) y) (x .negative) (record { steps = s .top - 1; place = x .place - 1; location = l })
+  pub far-power : Bool·beq (x .negative) (y .negative) ≡ false → x .significand ≤ s .least → {l : Location} → l ≡ belowPower (s .base) (y .significand) gap
+      → SumCut s (valueOf (s .base) x +ℤ valueOf (s .base) y) (x .negative) (record { steps = s .bound - 1; place = x .place - 1; location = l })
   far-power e l f =
       let k : ℕ = x .place - 1 in
       let B : ℕ = s .base ^ k in
       let unit : s .base ^ x .place ≡ s .base * B = pow-pred (s .base) (omega arith) in
-      let split : sizeOf (s .base) x ≡ s .top * B = ap₂ _*_ (x-full l) unit ∙ omega (arith, ap (λ (v : ℕ). v * B) (full-top h)) in
-      let steps : s .top * B ≡ (s .top - 1 + 1) * B = ap (λ (v : ℕ). v * B) (omega (arith, top-two)) in
-      let before : Canonical (s .base) (s .digits) (s .top - 1) k =
-      record { small = omega (arith, top-two, h .top-power); full = inr (omega (arith, top-two, h .top-power, mul-le-mul-right (s .top - 1) (h .base-least))) } in
-      sum-cut-made s ((s .top - 1) * B + (B - sizeOf (s .base) y))
+      let split : sizeOf (s .base) x ≡ s .bound * B = ap₂ _*_ (x-least l) unit ∙ omega (arith, ap (λ (v : ℕ). v * B) (least-bound h)) in
+      let steps : s .bound * B ≡ (s .bound - 1 + 1) * B = ap (λ (v : ℕ). v * B) (omega (arith, bound-two)) in
+      let before : Canonical (s .base) (s .digits) (s .bound - 1) k =
+      record { small = omega (arith, bound-two, h .bound-power); normal = inr (omega (arith, bound-two, h .bound-power, mul-le-mul-right (s .bound - 1) (h .base-least))) } in
+      sum-cut-made s ((s .bound - 1) * B + (B - sizeOf (s .base) y))
       (sum-differ (x .negative) (y .negative) e (sizeOf (s .base) x) (sizeOf (s .base) y) (omega (arith, y-below)) ∙ ap (signed (x .negative)) (omega (arith, y-below)))
       (sym (canonical-cut (positional h) before (B - sizeOf (s .base) y) (omega (arith, y-some, y-below))
-      ∙ ap (λ (l : Location). record { steps = s .top - 1; place = k; location = l }) (same-location ∙ sym f)))
+      ∙ ap (λ (l : Location). record { steps = s .bound - 1; place = k; location = l }) (same-location ∙ sym f)))
 
   -- both cases in which x keeps its place, selected by the signs
-  pub far-selected : (t : Bool) → Bool·beq (x .negative) (y .negative) ≡ t → (t ≡ false → s .full < x .significand) → {l : Location} → l ≡ cond t Below Above
+  pub far-selected : (t : Bool) → Bool·beq (x .negative) (y .negative) ≡ t → (t ≡ false → s .least < x .significand) → {l : Location} → l ≡ cond t Below Above
       → SumCut s (valueOf (s .base) x +ℤ valueOf (s .base) y) (x .negative) (record { steps = x .significand - boolByte (not t); place = x .place; location = l })
   far-selected true e m f = rw (f, sub-zero (x .significand)) (far-agree e)
   far-selected false e m f = rw f (far-differ e (m refl))
@@ -170,7 +170,7 @@ module _ {s : Scale} (h : Scaled s) {x y : Wide} (hx : Bounded s x) (hy : Bounde
 module _ {s : Scale} (h : Scaled s) {x y : Wide} (hx : Bounded s x) (hy : Bounded s y) {negative : Bool} {c : Cut}
     (k : SumCut s (valueOf (s .base) x +ℤ valueOf (s .base) y) negative c) where
   -- what `finish` asks of it
-  pub sum-finishes : Scaled s × (c .steps < s .top) × (c .place ≤ 2 ^ 30)
+  pub sum-finishes : Scaled s × (c .steps < s .bound) × (c .place ≤ 2 ^ 30)
   sum-finishes =
       let n : ℕ = natAbs (valueOf (s .base) x +ℤ valueOf (s .base) y) in
       (h, steps-fit h n 1 (omega arith) (k .size), omega (arith, place-fit h n 1 (omega arith) (k .size) (2 ^ 28 + 1) (sum-size (positional h) x y (hx .canonical) (hy .canonical) (2 ^ 28) (omega (arith, hx .place-most)) (omega (arith, hy .place-most)))))

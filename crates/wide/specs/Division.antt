@@ -33,7 +33,7 @@ pub record Grouped (s : Scale) (q place unit count : ℕ) : Type 0 where
   pub power : unit ≡ s .base ^ count
   pub some : 1 ≤ count
   pub within : count ≤ place
-  pub room : (q + 1) * unit ≤ s .top
+  pub room : (q + 1) * unit ≤ s .bound
   pub word : unit * s .base ≤ 2 ^ 31
 
 -- the digits of n / w at the places from `places` - 1 down to k are q, and r remains
@@ -44,14 +44,14 @@ pub record Taken (β n w places q r k : ℕ) : Type 0 where
 
 -- the three ends: all digits stand, the digit at the lowest place was taken, nothing remains
 pub data Ended (s : Scale) (v : Division) : Type 0 where
-  all-digits : s .full ≤ v .quotient → Ended s v
+  all-digits : s .least ≤ v .quotient → Ended s v
   lowest-place : v .place ≡ 0 → Ended s v
   no-rest : v .remainder ≡ 0 → Ended s v
 
 -- the answer of the loop: what it has taken, how many digits with the zeros before the first, and why it ended
 pub record Divided (s : Scale) (n w places : ℕ) (v : Division) : Type 0 where
   pub taken : Taken (s .base) n w places (v .quotient) (v .remainder) (v .place)
-  pub fits : v .quotient < s .top
+  pub fits : v .quotient < s .bound
   pub count : places - v .place ≤ s .digits + 32
   pub ended : Ended s v
 

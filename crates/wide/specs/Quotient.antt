@@ -4,8 +4,8 @@ use mathlib.Core.Path.{_≡_}
 use Rattle.format.specs.declared.Scale.{Scale}
 
 pub record Leading (s : Scale) (a : ℕ) : Type 0 where
-  pub least : s .full ≤ a
-  pub most : a < s .top
+  pub least : s .least ≤ a
+  pub most : a < s .bound
 
 -- m with `shift` digits more has all digits
 pub record Shifted (s : Scale) (m a shift : ℕ) : Type 0 where

@@ -52,21 +52,21 @@ fn align(base: u32, n: u32, d: u32) -> Aligned
 // How many digits the next turn takes: as long as none stands, all that the format keeps, or all but one where their power is too
 // large for a word, where so many places are left; then one at a time.
 fn next_group(scale: Scale, quotient: Significand, place: u32) -> Group
-    requires { ⌜ Scaled scale × (quotient < scale .full) × (1 ≤ place) ⌝ }
+    requires { ⌜ Scaled scale × (quotient < scale .least) × (1 ≤ place) ⌝ }
     ensures { λ r. ⌜ Grouped scale quotient place (r .unit) (r .count) ⌝ }
 {
     let all = scale.digits;
-    let next = scale.top as u64 * scale.base as u64;
+    let next = scale.bound as u64 * scale.base as u64;
     if quotient == 0 && all <= place && next <= 2147483648 {
         return Group {
-            unit: scale.top,
+            unit: scale.bound,
             count: all,
         };
     }
     let many = scale.digits - 1;
     if quotient == 0 && 1 <= many && many <= place {
         return Group {
-            unit: scale.full,
+            unit: scale.least,
             count: many,
         };
     }
@@ -86,7 +86,7 @@ fn take_digits(scale: Scale, n: u32, divisor: u64, places: u32) -> Division
     let mut remainder = n as u64;
     let mut place = places;
     let division = loop {
-        if scale.full <= quotient {
+        if scale.least <= quotient {
             break Division {
                 quotient,
                 remainder,
@@ -119,7 +119,7 @@ fn take_digits(scale: Scale, n: u32, divisor: u64, places: u32) -> Division
 
 // The cut of every value that was so divided. Where nothing remains, the digits that are missing are zeros.
 fn cut_division(scale: Scale, division: Division, divisor: u64) -> Cut
-    requires { ⌜ Scaled scale × (division .remainder < divisor) × (divisor < 2 ^ 63) × (division .quotient < scale .top)
+    requires { ⌜ Scaled scale × (division .remainder < divisor) × (divisor < 2 ^ 63) × (division .quotient < scale .bound)
         × (division .place < 2 ^ 30) × Ended scale division ⌝ }
     ensures { λ r. ⌜ ((N D : ℕ) → 1 ≤ D → Quotient (scale .base) N D divisor (division .quotient) (division .remainder) (division .place)
         → r ≡ cutOf (scale .base) (scale .digits) N D) ⌝ }

@@ -15,12 +15,12 @@ ghost use Rattle.wide.specs.Operand.{Bounded, sizeOf};
 
 // The cut of n * base ^ up / base ^ down, where n is the product of two significands: mostly it has all their digits, or one less.
 fn product_cut(scale: Scale, n: u64, up: u32, down: u32) -> Cut
-    requires { ⌜ Scaled scale × (n < scale .top * scale .top) × (up < 2 ^ 30) × (down < 2 ^ 30) ⌝ }
+    requires { ⌜ Scaled scale × (n < scale .bound * scale .bound) × (up < 2 ^ 30) × (down < 2 ^ 30) ⌝ }
     ensures { λ r. ⌜ r ≡ cutOf (scale .base) (scale .digits) (n * scale .base ^ up) (scale .base ^ down) ⌝ }
 {
-    let full = scale.full as u64;
-    if full * full <= n {
-        return cut_long(scale, n, up, down, full, scale.digits - 1);
+    let least = scale.least as u64;
+    if least * least <= n {
+        return cut_long(scale, n, up, down, least, scale.digits - 1);
     }
     cut(scale, n, up, down)
 }

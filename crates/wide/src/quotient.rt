@@ -27,7 +27,7 @@ pub struct Normal {
 
 // `m` with as many digits more as it lacks.
 fn normalise(scale: Scale, m: Significand) -> Normal
-    requires { ⌜ Scaled scale × (1 ≤ m) × (m < scale .top) ⌝ }
+    requires { ⌜ Scaled scale × (1 ≤ m) × (m < scale .bound) ⌝ }
     ensures { λ r. ⌜ Shifted scale m (r .value) (r .shift) ⌝ }
 {
     let shift = scale.digits - digit_count(scale, m as u64);
@@ -39,7 +39,7 @@ fn normalise(scale: Scale, m: Significand) -> Normal
 
 // a * unit divided by b.
 fn divide_shifted(scale: Scale, a: u64, b: u64, unit: u64, place: u32) -> Cut
-    requires { ⌜ Scaled scale × Leading scale b × (a * unit < b * scale .top) ⌝ }
+    requires { ⌜ Scaled scale × Leading scale b × (a * unit < b * scale .bound) ⌝ }
     ensures { λ r. ⌜ r ≡ dropped (a * unit) b place ⌝ }
 {
     divide(scale, a * unit, b, place)
@@ -62,10 +62,10 @@ fn quotient_cut(scale: Scale, a: u64, b: u64, high: u32, low: u32) -> Cut
     ensures { λ r. ⌜ r ≡ cutOf (scale .base) (scale .digits) (a * scale .base ^ high) (b * scale .base ^ low) ⌝ }
 {
     let mut digits = scale.digits;
-    let mut unit = scale.top;
+    let mut unit = scale.bound;
     if b <= a {
         digits = digits - 1;
-        unit = scale.full;
+        unit = scale.least;
     }
     if low + digits <= high {
         return divide_shifted(scale, a, b, unit as u64, high - (low + digits));

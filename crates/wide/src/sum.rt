@@ -51,10 +51,10 @@ fn add_signed(a: bool, v: u64, b: bool, w: u64) -> SignedSize
 
 // The cut of n * base ^ place, where unit = base ^ gap: mostly n has `gap` digits beyond the format's, or one more.
 fn near_cut(scale: Scale, n: u64, place: u32, unit: u64, gap: u32) -> Cut
-    requires { ⌜ Scaled scale × Unit scale unit gap × (n < unit * scale .top * scale .base) × (n < scale .top * scale .top) × (place < 2 ^ 28) ⌝ }
+    requires { ⌜ Scaled scale × Unit scale unit gap × (n < unit * scale .bound * scale .base) × (n < scale .bound * scale .bound) × (place < 2 ^ 28) ⌝ }
     ensures { λ r. ⌜ r ≡ cutOf (scale .base) (scale .digits) (n * scale .base ^ place) (scale .base ^ 0) ⌝ }
 {
-    if unit * scale.full as u64 <= n {
+    if unit * scale.least as u64 <= n {
         return cut_long(scale, n, place, 0, unit, gap);
     }
     cut(scale, n, place, 0)
@@ -74,13 +74,13 @@ fn near_sum(scale: Scale, direction: Direction, x: Wide, y: Wide, gap: u32) -> W
 
 // Where base ^ (gap - 1) - m lies in base ^ (gap - 1).
 fn below_power(scale: Scale, m: Significand, gap: u32) -> Location
-    requires { ⌜ Scaled scale × (m < scale .top) × (scale .digits < gap) ⌝ }
+    requires { ⌜ Scaled scale × (m < scale .bound) × (scale .digits < gap) ⌝ }
     ensures { λ r. ⌜ r ≡ belowPower (scale .base) m gap ⌝ }
 {
     if scale.digits + 1 < gap {
         return Location::Above;
     }
-    locate((scale.top - m) as u64, scale.top as u64)
+    locate((scale.bound - m) as u64, scale.bound as u64)
 }
 
 // The cut of a sum of two numbers whose places differ by more, with the sign of x: |y| is below half a step of x, and below a whole step
@@ -99,9 +99,9 @@ fn far_cut(scale: Scale, x: Wide, y: Wide, gap: u32) -> Cut
         };
     }
     let differ = x.negative != y.negative;
-    if differ & (m <= scale.full) {
+    if differ & (m <= scale.least) {
         return Cut {
-            steps: scale.top - 1,
+            steps: scale.bound - 1,
             place: place - 1,
             location: below_power(scale, y.significand, gap),
         };

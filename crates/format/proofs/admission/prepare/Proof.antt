@@ -5,7 +5,7 @@ use Rattle.format.specs.declared.Format.{Format}
 use Rattle.format.specs.declared.Preparation.the-variants.{Ready}
 use Rattle.format.specs.Formats.{preparation, highestPlace, preparedOf}
 use Rattle.format.proofs.Signed.{back}
-use Rattle.format.proofs.Formats.{Admitted, admits, exponents-made, top-full, full-top}
+use Rattle.format.proofs.Formats.{Admitted, admits, exponents-made, bound-least, least-bound}
 use Rattle.format.proofs.admission.prepare.Statement.{statement}
 use Rattle.format.proofs.admission.prepare.Tie as tie
 
@@ -19,9 +19,9 @@ passed : (c : tie.Else1) → Admitted (c .before .before .args .format)
 passed c = admits _ (granted (c .before .is-admitted .ensures) (c .if1 .left))
 
 -- what was worked out is what is to be prepared
-worked-out : (f : Format) → Admitted f → (full highest : ℕ) → full ≡ f .base ^ (f .digits - 1) → highest ≡ highestPlace f
-    → record { format = f; scale = record { base = f .base; digits = f .digits; full = full; top = full * f .base }; highest = highest } ≡ preparedOf f
-worked-out f a full highest e h = rw (e, h, top-full a)
+worked-out : (f : Format) → Admitted f → (least highest : ℕ) → least ≡ f .base ^ (f .digits - 1) → highest ≡ highestPlace f
+    → record { format = f; scale = record { base = f .base; digits = f .digits; least = least; bound = least * f .base }; highest = highest } ≡ preparedOf f
+worked-out f a least highest e h = rw (e, h, bound-least a)
 
 returns : tie.Need-returns
 unfolding preparation
@@ -31,10 +31,10 @@ sub-power : tie.Need-sub-power
 sub-power c = passed c .digits-low
 
 power-requires : tie.Need-power-requires
-power-requires c κs = let a = passed c in (a .base-low, a .base-high, le-trans (full-top a) (a .power-high))
+power-requires c κs = let a = passed c in (a .base-low, a .base-high, le-trans (least-bound a) (a .power-high))
 
 mul-t9 : tie.Need-mul-t9
-mul-t9 c = let a = passed (c .before) in rw (c .power .ensures, ← top-full a) (omega arith)
+mul-t9 c = let a = passed (c .before) in rw (c .power .ensures, ← bound-least a) (omega arith)
 
 distance-requires : tie.Need-distance-requires
 distance-requires c κs =

@@ -22,18 +22,18 @@ abbrev start : tie.After-struct-told3 → tie.Start
 start c = c .before .before .before .before .before .before
 
 -- the four tests of a number with all its digits
-abbrev full : tie.Start → Bool
-full c =
+abbrev least : tie.Start → Bool
+least c =
     let q = c .args .prepared in
     let x = c .args .x in
-    leb (q .scale .full) (x .significand) and ltb (x .significand) (q .scale .top) and leZ (q .format .emin) (x .exponent) and leZ (x .exponent) (q .format .emax)
+    leb (q .scale .least) (x .significand) and ltb (x .significand) (q .scale .bound) and leZ (q .format .emin) (x .exponent) and leZ (x .exponent) (q .format .emax)
 
 -- the two tests of a number at the lowest exponent
 abbrev few : tie.Start → Bool
 few c =
     let q = c .args .prepared in
     let x = c .args .x in
-    equalZ (x .exponent) (q .format .emin) and cond (eqb (x .significand) 0) (not (x .negative)) (ltb (x .significand) (q .scale .full))
+    equalZ (x .exponent) (q .format .emin) and cond (eqb (x .significand) 0) (not (x .negative)) (ltb (x .significand) (q .scale .least))
 
 four : (a b c d : Bool) {t : Bool} → (((a && b) && c) && d) ≡ t → a and b and c and d ≡ t
 unfolding _and_
@@ -42,10 +42,10 @@ four true true false d h = h
 four true false c d h = h
 four false b c d h = h
 
-tested : (c : tie.Then1) → full (start (c .before)) ≡ true
+tested : (c : tie.Then1) → least (start (c .before)) ≡ true
 tested c = let s = start (c .before) in four _ _ _ _ (rw (back (emin-fits s), back (e-fits s), back (emax-fits s)) at (c .if1 .taken))
 
-failed : (c : tie.Else1) → full (start (c .before)) ≡ false
+failed : (c : tie.Else1) → least (start (c .before)) ≡ false
 failed c = let s = start (c .before) in four _ _ _ _ (rw (back (emin-fits s), back (e-fits s), back (emax-fits s)) at (c .if1 .left))
 
 -- where the first alternative fails, the second decides

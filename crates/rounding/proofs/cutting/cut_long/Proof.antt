@@ -9,12 +9,12 @@ use Rattle.rounding.proofs.cutting.cut_long.Tie as tie
 mul-if1 : tie.Need-mul-if1
 mul-if1 c =
     let p = c .before .pre in
-    omega (arith, mul-le-mul (unit-most (p .0) (p .1)) (p .0 .top-most), p .0 .top-most)
+    omega (arith, mul-le-mul (unit-most (p .0) (p .1)) (p .0 .bound-most), p .0 .bound-most)
 
 mul-divisor : tie.Need-mul-divisor
 mul-divisor c =
     let p = c .before .before .before .pre in
-    omega (arith, mul-le-mul (unit-most (p .0) (p .1)) (p .0 .base-most), p .0 .top-most)
+    omega (arith, mul-le-mul (unit-most (p .0) (p .1)) (p .0 .base-most), p .0 .bound-most)
 
 add-beyond : tie.Need-add-beyond
 add-beyond c = let p = c .before .before .before .pre in omega (arith, p .1 .most, digits-most (p .0))

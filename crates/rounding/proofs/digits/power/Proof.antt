@@ -1,4 +1,4 @@
--- `rounding::digits::power` meets its contract: above the digits, top times the power of the rest.
+-- `rounding::digits::power` meets its contract: above the digits, bound times the power of the rest.
 use Rattle.theory.proofs.Prelude.{_^_, _*_, _≡_, arith, needs}
 use Rattle.rounding.proofs.Scales.{power-beyond, power-most}
 use Rattle.rounding.proofs.digits.power.Statement.{statement}
@@ -7,7 +7,7 @@ use Rattle.rounding.proofs.digits.power.Tie as tie
 abbrev start : tie.After-power-within2 → tie.Start
 start c = c .before .before .before
 
-beyond : (c : tie.After-power-within2) → start c .args .scale .top * c .power-within2 .result ≡ start c .args .scale .base ^ start c .args .k
+beyond : (c : tie.After-power-within2) → start c .args .scale .bound * c .power-within2 .result ≡ start c .args .scale .base ^ start c .args .k
 beyond c = power-beyond (start c .pre .0) (omega arith) (c .power-within2 .ensures)
 
 mul-result : tie.Need-mul-result

@@ -42,27 +42,27 @@ two-least {q} u = let a = known u .admits in omega (arith, pow-zero (q .format .
 sub-number-at : tie.Need-sub-number-at
 sub-number-at c =
     let u = start (c .before) .pre .usable in
-    omega (arith, known u .top, two-least u)
+    omega (arith, known u .bound, two-least u)
 
-digits-full : {β p t : ℕ} → 2 ≤ β → 2 ≤ β ^ p → t ≡ β ^ p → (k : ℕ) → Canonical β p (t - 1) k
-digits-full {β} {p} {t} b two e k = record { small = omega arith; full = inr (omega (arith, mul-le-mul-right (t - 1) b)) }
+digits-least : {β p t : ℕ} → 2 ≤ β → 2 ≤ β ^ p → t ≡ β ^ p → (k : ℕ) → Canonical β p (t - 1) k
+digits-least {β} {p} {t} b two e k = record { small = omega arith; normal = inr (omega (arith, mul-le-mul-right (t - 1) b)) }
 
 number-at-requires : tie.Need-number-at-requires
 number-at-requires c κs =
     let u = start (c .before) .pre .usable in
-    (u, digits-full (known u .admits .base-low) (two-least u) (known u .top) _, le-refl _)
+    (u, digits-least (known u .admits .base-low) (two-least u) (known u .bound) _, le-refl _)
 
-top : (c : tie.After-number-at) → let f = start (c .before .before) .args .prepared .format in Has f (c .number-at .result) (pos (greatest f))
+bound : (c : tie.After-number-at) → let f = start (c .before .before) .args .prepared .format in Has f (c .number-at .result) (pos (greatest f))
 unfolding greatest
-top c =
+bound c =
     let s = start (c .before .before) in
     let f = s .args .prepared .format in
     let k = known (s .pre .usable) in
     number-has (k .admits) (greatest-wide (k .admits)) (le-refl _)
-    (c .number-at .ensures ∙ ap (number f false) (ap₂ (λ (t h : ℕ). (t - 1) * f .base ^ h) (k .top) (k .highest)))
+    (c .number-at .ensures ∙ ap (number f false) (ap₂ (λ (t h : ℕ). (t - 1) * f .base ^ h) (k .bound) (k .highest)))
 
 is-smaller-requires : tie.Need-is-smaller-requires
-is-smaller-requires c κs = let s = start (c .before .before) in (s .pre .usable .format, s .pre .number, top c .number)
+is-smaller-requires c κs = let s = start (c .before .before) in (s .pre .usable .format, s .pre .number, bound c .number)
 
 some : (f : Format) (x : Number) → 2 ≤ f .base → (x .significand ≡ 0 → ⊥) → 1 ≤ magnitude f x
 unfolding magnitude
@@ -76,7 +76,7 @@ returns-3 c =
     let f = s .args .prepared .format in
     let x = s .args .x in
     let a = known (s .pre .usable) .admits in
-    c .is-smaller .ensures ∙ ap (ltb (magnitude f x)) (has-size (top n))
+    c .is-smaller .ensures ∙ ap (ltb (magnitude f x)) (has-size (bound n))
     ∙ last-by f x (suffice (e .before)) (some f x (a .base-low) (e .if2 .left)) (member-greatest a (members x a (s .pre .number)))
 
 pub last-premise-spec : {M : Type 1} → statement M

@@ -28,12 +28,12 @@ add-deliver c =
 
 -- past the last significand
 last : (c : tie.Then1) → let s = c .before .before .before .before in suc (s .args .x .significand) ≡ s .args .prepared .format .base ^ s .args .prepared .format .digits
-last c = let s = c .before .before .before .before in sym (add-one (s .args .x .significand)) ∙ c .if1 .taken ∙ facts s .top
+last c = let s = c .before .before .before .before in sym (add-one (s .args .x .significand)) ∙ c .if1 .taken ∙ facts s .bound
 
 deliver-requires : tie.Need-deliver-requires
 deliver-requires c κs =
     let s = c .before .before .before .before in
-    (s .pre .usable, canonical-as (facts s .full) refl (power-high (positional (facts s .admits)) _))
+    (s .pre .usable, canonical-as (facts s .least) refl (power-high (positional (facts s .admits)) _))
 
 returns : tie.Need-returns
 returns c =
@@ -42,7 +42,7 @@ returns c =
     let f = s .args .prepared .format in
     c .deliver .ensures
     ∙ ap (delivered f (s .args .negative))
-    (ap₂ (λ (m k : ℕ). m * f .base ^ (k + 1)) (facts s .full) (p .place-of .ensures) ∙ carry-written (facts s .admits) (inner s) (last (c .before)))
+    (ap₂ (λ (m k : ℕ). m * f .base ^ (k + 1)) (facts s .least) (p .place-of .ensures) ∙ carry-written (facts s .admits) (inner s) (last (c .before)))
 
 deliver-requires-2 : tie.Need-deliver-requires-2
 deliver-requires-2 c κs =
@@ -51,7 +51,7 @@ deliver-requires-2 c κs =
     let a = facts s .admits in (
       s .pre .usable,
       canonical-as (add-one (s .args .x .significand)) (p .place-of .ensures)
-          (next-canonical (positional a) (member-canonical a (inner s)) (omega (arith, inner s .significand-high, c .if1 .left, facts s .top))),
+          (next-canonical (positional a) (member-canonical a (inner s)) (omega (arith, inner s .significand-high, c .if1 .left, facts s .bound))),
     )
 
 returns-2 : tie.Need-returns-2

@@ -5,7 +5,7 @@ use Rattle.number.specs.Numbers.{placeOf, delivered}
 use Rattle.number.proofs.Membership.{Member, members, Known, known}
 use Rattle.number.proofs.Values.{member-canonical}
 use Rattle.theory.proofs.Powers.{pow-pos}
-use Rattle.units.proofs.Forms.{canonical-as, full-digits, before-canonical, below-canonical}
+use Rattle.units.proofs.Forms.{canonical-as, least-digits, before-canonical, below-canonical}
 use Rattle.units.proofs.Written.{before-written, below-written}
 use Rattle.units.proofs.neighbours.toward.Statement.{statement}
 use Rattle.units.proofs.neighbours.toward.Tie as tie
@@ -28,8 +28,8 @@ between c =
     let e = c .before .before in
     let s = e .before .before in
     let k = facts s in
-    let h = full-digits (positional (k .admits)) (member-canonical (k .admits) (inner s)) (omega (arith, e .before .place-of .ensures, e .if1 .left)) in
-    inr (omega (arith, k .full, c .if2 .left))
+    let h = least-digits (positional (k .admits)) (member-canonical (k .admits) (inner s)) (omega (arith, e .before .place-of .ensures, e .if1 .left)) in
+    inr (omega (arith, k .least, c .if2 .left))
 
 deliver-requires : tie.Need-deliver-requires
 deliver-requires c κs =
@@ -49,11 +49,11 @@ returns c =
 sub-deliver-2 : tie.Need-sub-deliver-2
 sub-deliver-2 c =
     let s = c .before .before .before .before .before in
-    omega (arith, facts s .top, pow-pos (facts s .admits .base-low) (s .args .prepared .format .digits))
+    omega (arith, facts s .bound, pow-pos (facts s .admits .base-low) (s .args .prepared .format .digits))
 
 -- a power above the least place
 power : (c : tie.After-struct-known2) → let s = c .before .before .before .before .before in s .args .x .significand ≡ s .args .prepared .format .base ^ (s .args .prepared .format .digits - 1)
-power c = let s = c .before .before .before .before .before in c .before .if2 .taken ∙ facts s .full
+power c = let s = c .before .before .before .before .before in c .before .if2 .taken ∙ facts s .least
 
 deliver-requires-2 : tie.Need-deliver-requires-2
 deliver-requires-2 c κs =
@@ -61,7 +61,7 @@ deliver-requires-2 c κs =
     let s = e .before .before in
     let a = facts s .admits in (
       s .pre .0 .usable,
-      canonical-as (ap (λ (t : ℕ). t - 1) (facts s .top)) (ap (λ (k : ℕ). k - 1) (e .before .place-of .ensures))
+      canonical-as (ap (λ (t : ℕ). t - 1) (facts s .bound)) (ap (λ (k : ℕ). k - 1) (e .before .place-of .ensures))
           (below-canonical (positional a) (member-canonical a (inner s)) (power c) (omega (arith, e .before .place-of .ensures, e .if1 .left))),
     )
 
@@ -73,7 +73,7 @@ returns-2 c =
     let f = s .args .prepared .format in
     c .deliver2 .ensures
     ∙ ap (delivered f (s .args .negative))
-    (ap₂ (λ (t k : ℕ). (t - 1) * f .base ^ (k - 1)) (facts s .top) (p .place-of .ensures)
+    (ap₂ (λ (t k : ℕ). (t - 1) * f .base ^ (k - 1)) (facts s .bound) (p .place-of .ensures)
     ∙ below-written (facts s .admits) (inner s) (power (c .before)) (omega (arith, p .place-of .ensures, e .if1 .left)))
 
 deliver-requires-3 : tie.Need-deliver-requires-3

@@ -15,7 +15,7 @@ leading-power-requires : tie.Need-leading-power-requires
 leading-power-requires c κs =
     let s = c .before in
     let k = known (s .pre .usable) in
-    (usable-scaled (s .pre .usable), omega (arith, k .top, members _ (k .admits) (s .pre .number) .significand-high))
+    (usable-scaled (s .pre .usable), omega (arith, k .bound, members _ (k .admits) (s .pre .number) .significand-high))
 
 returns : tie.Need-returns
 returns c =

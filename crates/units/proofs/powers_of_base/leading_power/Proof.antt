@@ -28,11 +28,11 @@ returns : tie.Need-returns Inv-loop μ-loop
 returns c =
     let s = c .before .before in
     let h = s .pre .0 in
-    let f : s .args .scale .full ≡ s .args .scale .base ^ (s .args .scale .digits - 1) = h .full-power in
+    let f : s .args .scale .least ≡ s .args .scale .base ^ (s .args .scale .digits - 1) = h .least-power in
     f
     ∙ sym
     (ufp-unique (h .base-least) (s .args .scale .digits - 1) (omega (arith, c .if1 .taken))
-    (omega (arith, s .pre .1, h .top-power, pow-pred (s .args .scale .base) (h .digits-least))))
+    (omega (arith, s .pre .1, h .bound-power, pow-pred (s .args .scale .base) (h .digits-least))))
 
 returns-2 : tie.Need-returns-2 Inv-loop μ-loop
 unfolding ufp

@@ -13,7 +13,7 @@ use Rattle.units.proofs.powers_of_base.power_number.Statement.{statemen
 use Rattle.units.proofs.powers_of_base.power_number.Tie as tie
 
 within : (s : Scale) → Scaled s → (k : ℕ) → k < s .digits → s .base ^ k ≤ greatestPower
-within s h k l = omega (arith, pow-mono (h .base-least) {i = k} {j = s .digits} (omega arith), h .top-power, h .top-most)
+within s h k l = omega (arith, pow-mono (h .base-least) {i = k} {j = s .digits} (omega arith), h .bound-power, h .bound-most)
 
 power-requires : tie.Need-power-requires
 power-requires c κs =
@@ -50,7 +50,7 @@ number-at-requires-2 c κs =
     let s = c .before in
     let k = known (s .pre .0) in (
       s .pre .0,
-      subst (λ (m : ℕ). Canonical (s .args .prepared .format .base) (s .args .prepared .format .digits) m (s .args .k + 1 - s .args .prepared .scale .digits)) (sym (k .full)) (power-high (positional (k .admits)) _),
+      subst (λ (m : ℕ). Canonical (s .args .prepared .format .base) (s .args .prepared .format .digits) m (s .args .k + 1 - s .args .prepared .scale .digits)) (sym (k .least)) (power-high (positional (k .admits)) _),
       omega (arith, s .pre .1, k .digits, c .if1 .left),
     )
 
@@ -60,7 +60,7 @@ returns-2 c =
     let k = known (s .pre .0) in
     c .number-at2 .ensures
     ∙ ap (number (s .args .prepared .format) false)
-    (ap₂ (λ (m d : ℕ). m * s .args .prepared .format .base ^ (s .args .k + 1 - d)) (k .full) (k .digits)
+    (ap₂ (λ (m d : ℕ). m * s .args .prepared .format .base ^ (s .args .k + 1 - d)) (k .least) (k .digits)
     ∙ power-split (positional (k .admits)) (s .args .k) (omega (arith, k .digits, c .before .if1 .left)))
 
 pub power-number-spec : {M : Type 1} → statement M

@@ -4,7 +4,7 @@ use Rattle.theory.proofs.Prelude.{_≤_, _^_, _*_, _∙_, ap, _≡_, sym, mul-l
 use Rattle.theory.specs.declared.Location.{Location}
 use Rattle.rounding.specs.Cut.{cutOf}
 use Rattle.rounding.proofs.Scales.{positional}
-use Rattle.wide.proofs.Cuts.{quotient-cut, exact-cut, ended-full}
+use Rattle.wide.proofs.Cuts.{quotient-cut, exact-cut, ended-least}
 use Rattle.wide.proofs.long_division.cut_division.Statement.{statement}
 use Rattle.wide.proofs.long_division.cut_division.Tie as tie
 
@@ -12,8 +12,8 @@ cut-requires : tie.Need-cut-requires
 cut-requires c κs =
     let s = c .before .before .before in
     let p = s .pre in
-    let some : 1 ≤ s .args .scale .top = omega (arith, p .3) in
-    (p .0, omega (arith, p .3, mul-le-mul-left (s .args .scale .top) some), omega (arith, p .4), omega arith)
+    let some : 1 ≤ s .args .scale .bound = omega (arith, p .3) in
+    (p .0, omega (arith, p .3, mul-le-mul-left (s .args .scale .bound) some), omega (arith, p .4), omega arith)
 
 returns : tie.Need-returns
 returns c =
@@ -34,7 +34,7 @@ returns-2 c =
     let p = s .pre in
     let a = s .args in
     ap (λ (l : Location). record { steps = a .division .quotient; place = a .division .place; location = l }) (c .locate .ensures)
-    ∙ sym (quotient-cut (positional (p .0)) hD v (omega (arith, p .3, p .0 .top-power)) (ended-full (p .0) (p .5) (c .before .if1 .left)))
+    ∙ sym (quotient-cut (positional (p .0)) hD v (omega (arith, p .3, p .0 .bound-power)) (ended-least (p .0) (p .5) (c .before .if1 .left)))
 
 pub cut-division-spec : {M : Type 1} → statement M
 cut-division-spec = tie.close (tie.spec (λ c. search needs) cut-requires returns locate-requires returns-2)

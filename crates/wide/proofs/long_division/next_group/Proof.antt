@@ -1,6 +1,6 @@
 -- `wide::long_division::next_group` meets its contract.
 use Rattle.theory.proofs.Prelude.{sym, mul-le-mul-right, mul-le-mul, arith, needs, leb-true}
-use Rattle.rounding.proofs.Scales.{full-top, full-most, power-one}
+use Rattle.rounding.proofs.Scales.{least-bound, least-most, power-one}
 use Rattle.wide.proofs.long_division.next_group.Statement.{statement}
 use Rattle.wide.proofs.long_division.next_group.Tie as tie
 
@@ -8,13 +8,13 @@ abbrev start : tie.After-struct-known2 → tie.Start
 start c = c .before .before
 
 mul-next : tie.Need-mul-next
-mul-next c = let h = start c .pre .0 in omega (arith, mul-le-mul (h .top-most) (h .base-most))
+mul-next c = let h = start c .pre .0 in omega (arith, mul-le-mul (h .bound-most) (h .base-most))
 
 returns : tie.Need-returns
 returns c =
     let h = start (c .before .before .before) .pre .0 in
     record {
-      power = h .top-power;
+      power = h .bound-power;
       some = h .digits-least;
       within = leb-true _ _ (c .before .if2 .taken);
       room = rw (c .before .before .if1 .taken) (omega arith);
@@ -28,11 +28,11 @@ returns-2 : tie.Need-returns-2
 returns-2 c =
     let h = start₂ (c .before .before .before) .pre .0 in
     record {
-      power = h .full-power;
+      power = h .least-power;
       some = leb-true _ _ (c .before .if5 .taken);
       within = leb-true _ _ (c .if6 .taken);
-      room = rw (c .before .before .if4 .taken) (omega (arith, full-most h));
-      word = omega (arith, full-top h, h .top-most);
+      room = rw (c .before .before .if4 .taken) (omega (arith, least-most h));
+      word = omega (arith, least-bound h, h .bound-most);
     }
 
 returns-3 : tie.Need-returns-3
@@ -44,7 +44,7 @@ returns-3 c =
       power = sym (power-one β);
       some = omega arith;
       within = s .pre .2;
-      room = omega (arith, full-top h, mul-le-mul-right β (s .pre .1));
+      room = omega (arith, least-bound h, mul-le-mul-right β (s .pre .1));
       word = omega (arith, mul-le-mul (h .base-most) (h .base-most));
     }
 

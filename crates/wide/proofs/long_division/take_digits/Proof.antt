@@ -11,7 +11,7 @@ use Rattle.wide.proofs.long_division.take_digits.Tie as tie
 
 abbrev Inv-loop : tie.InvT-loop
 Inv-loop scale n divisor places quotient₀ remainder₀ place₀ quotient remainder place =
-    Taken (scale .base) n divisor places quotient remainder place × (quotient < scale .top)
+    Taken (scale .base) n divisor places quotient remainder place × (quotient < scale .bound)
 
 abbrev μ-loop : tie.MeasureT-loop
 μ-loop scale n divisor places quotient₀ remainder₀ place₀ quotient remainder place = place
@@ -23,7 +23,7 @@ loop-holds : tie.Need-loop-holds Inv-loop μ-loop
 loop-holds c =
     let a = c .args in
     let h = c .pre .0 in
-    (taken-none (a .scale .base) (c .pre .2) (a .places), omega (arith, h .top-power, pow-pos (h .base-least) (a .scale .digits)))
+    (taken-none (a .scale .base) (c .pre .2) (a .places), omega (arith, h .bound-power, pow-pos (h .base-least) (a .scale .digits)))
 
 -- what remains is below the divisor
 rest : (c : tie.At-loop Inv-loop μ-loop) → c .loop .remainder < start c .args .divisor
@@ -43,7 +43,7 @@ some : (c : tie.After-next-group Inv-loop μ-loop) → 1 ≤ unit c
 some c = rw (c .next-group .ensures .power) (pow-pos (start (head c) .pre .0 .base-least) (c .next-group .result .count))
 
 turn : (c : tie.After-next-group Inv-loop μ-loop)
-    → Turn (unit c) (start (head c) .args .scale .top) (start (head c) .args .divisor) (head c .loop .quotient) (head c .loop .remainder)
+    → Turn (unit c) (start (head c) .args .scale .bound) (start (head c) .args .divisor) (head c .loop .quotient) (head c .loop .remainder)
 turn c = turn-is (some c) (c .next-group .ensures .room) (rest (head c))
 
 -- what remains, lowered, fits a word
@@ -65,13 +65,13 @@ div-digits : tie.Need-div-digits Inv-loop μ-loop
 div-digits c = omega (arith, start (head (c .before)) .pre .2)
 
 cast-digits : tie.Need-cast-digits Inv-loop μ-loop
-cast-digits c = omega (arith, turn (c .before) .next, start (head (c .before)) .pre .0 .top-most)
+cast-digits c = omega (arith, turn (c .before) .next, start (head (c .before)) .pre .0 .bound-most)
 
 mul-quotient : tie.Need-mul-quotient Inv-loop μ-loop
-mul-quotient c = let a = c .before .before in omega (arith, turn a .next, start (head a) .pre .0 .top-most)
+mul-quotient c = let a = c .before .before in omega (arith, turn a .next, start (head a) .pre .0 .bound-most)
 
 add-quotient : tie.Need-add-quotient Inv-loop μ-loop
-add-quotient c = let a = c .before .before in omega (arith, turn a .next, start (head a) .pre .0 .top-most)
+add-quotient c = let a = c .before .before in omega (arith, turn a .next, start (head a) .pre .0 .bound-most)
 
 rem-remainder : tie.Need-rem-remainder Inv-loop μ-loop
 rem-remainder c = omega (arith, start (head (c .before .before)) .pre .2)
@@ -101,7 +101,7 @@ yields c e =
     record {
       taken = c .loop .inv .0;
       fits = c .loop .inv .1;
-      count = few-digits (s .args .scale .digits) (h .base-least) (s .pre .1) (s .pre .2) (s .pre .3) (omega (arith, h .top-power, c .loop .inv .1)) (c .loop .inv .0);
+      count = few-digits (s .args .scale .digits) (h .base-least) (s .pre .1) (s .pre .2) (s .pre .3) (omega (arith, h .bound-power, c .loop .inv .1)) (c .loop .inv .0);
       ended = e;
     }
 

@@ -1,20 +1,20 @@
 -- `wide::product::product_cut` meets its contract: both cuts are that of the value.
 use Rattle.theory.proofs.Prelude.{ℕ, _*_, ap, mul-le-mul, arith, needs}
-use Rattle.rounding.proofs.Scales.{full-unit, full-most, full-top, square, square-most}
+use Rattle.rounding.proofs.Scales.{least-unit, least-most, least-bound, square, square-most}
 use Rattle.wide.proofs.product.product_cut.Statement.{statement}
 use Rattle.wide.proofs.product.product_cut.Tie as tie
 
 mul-if1 : tie.Need-mul-if1
 mul-if1 c =
     let h = c .before .pre .0 in
-    omega (arith, mul-le-mul (full-most h) (full-most h), square h, square-most h)
+    omega (arith, mul-le-mul (least-most h) (least-most h), square h, square-most h)
 
 cut-long-requires : tie.Need-cut-long-requires
 cut-long-requires c κs =
     let s = c .before .before .before in
     let p = s .pre in
-    let t = s .args .scale .top in
-    (p .0, full-unit (p .0), c .before .if1 .taken, omega (arith, p .1, ap (λ (v : ℕ). v * t) (full-top (p .0))), p .1, p .2, p .3)
+    let t = s .args .scale .bound in
+    (p .0, least-unit (p .0), c .before .if1 .taken, omega (arith, p .1, ap (λ (v : ℕ). v * t) (least-bound (p .0))), p .1, p .2, p .3)
 
 pub product-cut-spec : {M : Type 1} → statement M
 product-cut-spec =

@@ -11,13 +11,13 @@ mul-locate : tie.Need-mul-locate
 mul-locate c =
     let s = c .before .before in
     let p = s .pre in
-    let b-most : s .args .b ≤ greatestPower = omega (arith, p .2 .most, p .0 .top-most) in
+    let b-most : s .args .b ≤ greatestPower = omega (arith, p .2 .most, p .0 .bound-most) in
     omega (arith, mul-le-mul b-most (p .0 .base-most))
 
 locate-requires : tie.Need-locate-requires
 locate-requires c κs =
     let p = c .before .before .pre in
-    (omega (arith, p .1 .most, p .0 .top-most), mul-pos (leading-pos (p .0) (p .2)) (omega (arith, p .0 .base-least)))
+    (omega (arith, p .1 .most, p .0 .bound-most), mul-pos (leading-pos (p .0) (p .2)) (omega (arith, p .0 .base-least)))
 
 returns : tie.Need-returns
 returns c =

@@ -8,8 +8,8 @@ use Rattle.wide.proofs.quotient.normalise.Tie as tie
 digit-count-requires : tie.Need-digit-count-requires
 digit-count-requires c κs =
     let p = c .pre in
-    let some : 1 ≤ c .args .scale .top = omega arith in
-    (p .0, p .1, omega (arith, mul-le-mul-left (c .args .scale .top) some))
+    let some : 1 ≤ c .args .scale .bound = omega arith in
+    (p .0, p .1, omega (arith, mul-le-mul-left (c .args .scale .bound) some))
 
 sub-shift : tie.Need-sub-shift
 sub-shift c = let p = c .before .before .pre in digits-fit (p .0) (c .before .digit-count .ensures) (p .2)
@@ -20,7 +20,7 @@ made c =
     shifted (p .0) (c .before .before .digit-count .ensures) (p .1) (p .2) (c .power .ensures)
 
 mul-t7 : tie.Need-mul-t7
-mul-t7 c = omega (arith, made c .leading .most, c .before .before .before .pre .0 .top-most)
+mul-t7 c = omega (arith, made c .leading .most, c .before .before .before .pre .0 .bound-most)
 
 returns : tie.Need-returns
 returns c = made c

@@ -26,7 +26,7 @@ unit-power : (c : tie.Joined1) → c .if1 .unit ≡ start c .args .scale .base ^
 unit-power c =
     let h = start c .pre .0 in
     let β = start c .args .scale .base in
-    ⊎-elim (λ w. w .2 ∙ h .full-power ∙ power-at β (sym (w .1))) (λ w. w .2 ∙ h .top-power ∙ power-at β (sym (w .1))) (c .if1 .came)
+    ⊎-elim (λ w. w .2 ∙ h .least-power ∙ power-at β (sym (w .1))) (λ w. w .2 ∙ h .bound-power ∙ power-at β (sym (w .1))) (c .if1 .came)
 
 shifted : (c : tie.Joined1) → start c .args .a * c .if1 .unit ≡ start c .args .a * start c .args .scale .base ^ c .if1 .digits
 shifted c = ap (λ (v : ℕ). start c .args .a * v) (unit-power c)

@@ -20,8 +20,8 @@ unfolding belowPower
 returns-2 c =
     let s = c .before .before .before .before .before in
     let h = s .pre .0 in
-    let top : s .args .scale .top ≡ s .args .scale .base ^ (s .args .gap - 1) = h .top-power ∙ power-at (s .args .scale .base) (omega arith) in
-    c .locate .ensures ∙ ap (λ (t : ℕ). located (t - s .args .m) t) top
+    let bound : s .args .scale .bound ≡ s .args .scale .base ^ (s .args .gap - 1) = h .bound-power ∙ power-at (s .args .scale .base) (omega arith) in
+    c .locate .ensures ∙ ap (λ (t : ℕ). located (t - s .args .m) t) bound
 
 pub below-power-spec : {M : Type 1} → statement M
 below-power-spec =

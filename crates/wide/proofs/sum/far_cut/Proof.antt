@@ -7,14 +7,14 @@ use Rattle.wide.proofs.Sums.{far-none, far-power, far-selected}
 use Rattle.wide.proofs.sum.far_cut.Statement.{statement}
 use Rattle.wide.proofs.sum.far_cut.Tie as tie
 
--- the signs differ and m is at most full, or not
-both : (t : Bool) (m full : ℕ) → (not t && leb m full) ≡ true → (t ≡ false) × (m ≤ full)
-both true m full h = absurd (never (sym h))
-both false m full h = (refl, leb-true m full h)
+-- the signs differ and m is at most least, or not
+both : (t : Bool) (m least : ℕ) → (not t && leb m least) ≡ true → (t ≡ false) × (m ≤ least)
+both true m least h = absurd (never (sym h))
+both false m least h = (refl, leb-true m least h)
 
-not-both : (t : Bool) (m full : ℕ) → (not t && leb m full) ≡ false → t ≡ false → full < m
-not-both true m full h e = absurd (never e)
-not-both false m full h e = leb-false m full h
+not-both : (t : Bool) (m least : ℕ) → (not t && leb m least) ≡ false → t ≡ false → least < m
+not-both true m least h e = absurd (never e)
+not-both false m least h e = leb-false m least h
 
 selected : (t : Bool) {l : Location} → not t ≡ true → l ≡ Above → l ≡ cond t Below Above
 selected true h e = absurd (never (sym h))
@@ -24,9 +24,9 @@ kept : (t : Bool) {l : Location} → not t ≡ false → l ≡ Below → l ≡ c
 kept true h e = e
 kept false h e = absurd (never h)
 
-step-fits : (t : Bool) (m full : ℕ) → (t ≡ false → full < m) → boolByte (not t) ≤ m
-step-fits true m full h = omega arith
-step-fits false m full h = omega (arith, h refl)
+step-fits : (t : Bool) (m least : ℕ) → (t ≡ false → least < m) → boolByte (not t) ≤ m
+step-fits true m least h = omega arith
+step-fits false m least h = omega (arith, h refl)
 
 abbrev start : tie.Else1 → tie.Start
 start c = c .before .before
@@ -47,18 +47,18 @@ returns-2 c =
     let e = digits (t .before) in
     let s = start e in
     let p = s .pre in
-    let b = both (Bool·beq (s .args .x .negative) (s .args .y .negative)) (s .args .x .significand) (s .args .scale .full) (t .if2 .taken) in
+    let b = both (Bool·beq (s .args .x .negative) (s .args .y .negative)) (s .args .x .significand) (s .args .scale .least) (t .if2 .taken) in
     far-power (p .0) (p .1) (p .2) (s .args .gap) (p .3) (p .4) (some e) (b .0) (b .1) (c .below-power .ensures)
 
-above : (c : tie.Else2) → let s = start (digits (c .before)) .args in Bool·beq (s .x .negative) (s .y .negative) ≡ false → s .scale .full < s .x .significand
+above : (c : tie.Else2) → let s = start (digits (c .before)) .args in Bool·beq (s .x .negative) (s .y .negative) ≡ false → s .scale .least < s .x .significand
 above c =
     let s = start (digits (c .before)) .args in
-    not-both (Bool·beq (s .x .negative) (s .y .negative)) (s .x .significand) (s .scale .full) (c .if2 .left)
+    not-both (Bool·beq (s .x .negative) (s .y .negative)) (s .x .significand) (s .scale .least) (c .if2 .left)
 
 sub-t17 : tie.Need-sub-t17
 sub-t17 c =
     let s = start (digits (c .before .before)) .args in
-    step-fits (Bool·beq (s .x .negative) (s .y .negative)) (s .x .significand) (s .scale .full) (above (c .before))
+    step-fits (Bool·beq (s .x .negative) (s .y .negative)) (s .x .significand) (s .scale .least) (above (c .before))
 
 returns-3 : tie.Need-returns-3
 returns-3 c =

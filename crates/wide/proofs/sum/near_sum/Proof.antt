@@ -7,10 +7,10 @@ use Rattle.wide.proofs.Sums.{near-most, near-below, near-sum-cut, sum-f
 use Rattle.wide.proofs.sum.near_sum.Statement.{statement}
 use Rattle.wide.proofs.sum.near_sum.Tie as tie
 
-most : (c : tie.After-power) → c .before .args .x .significand * c .power .result + c .before .args .y .significand < c .before .args .scale .top * c .before .args .scale .top
+most : (c : tie.After-power) → c .before .args .x .significand * c .power .result + c .before .args .y .significand < c .before .args .scale .bound * c .before .args .scale .bound
 most c = let p = c .before .pre in near-most (p .0) (p .1) (p .2) (c .before .args .gap) (p .3) (c .power .ensures) (p .4)
 
-fits : (c : tie.Start) → c .args .scale .top * c .args .scale .top < 2 ^ 63
+fits : (c : tie.Start) → c .args .scale .bound * c .args .scale .bound < 2 ^ 63
 fits c = omega (arith, square (c .pre .0), square-most (c .pre .0))
 
 mul-high : tie.Need-mul-high
