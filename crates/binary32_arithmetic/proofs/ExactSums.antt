@@ -138,8 +138,8 @@ module _ (x : Wide) (h : Placed 253 x) where
       twice : x .significand * 2 * 2 ^ x .place ≡ sizeOf 2 x + sizeOf 2 x
       twice = omega arith
 
-  pub twice-least : 2 ^ 23 ≤ x .significand → Holds 254 (valueOf 2 x +ℤ valueOf 2 x) (record { negative = x .negative; significand = x .significand; place = x .place + 1 })
-  twice-least l =
+  pub twice-normal : 2 ^ 23 ≤ x .significand → Holds 254 (valueOf 2 x +ℤ valueOf 2 x) (record { negative = x .negative; significand = x .significand; place = x .place + 1 })
+  twice-normal l =
       record {
         placed = record { canonical = record { small = h .canonical .small; normal = inr (omega arith) }; place-most = omega (arith, h .place-most) };
         value = ap (signed (x .negative)) twice ∙ signed-twice (x .negative) (sizeOf 2 x);

@@ -1,6 +1,6 @@
 -- `binary32_arithmetic::exact::doubled` meets its contract.
 use Rattle.theory.proofs.Prelude.{needs}
-use Rattle.binary32_arithmetic.proofs.ExactSums.{twice-small, twice-least}
+use Rattle.binary32_arithmetic.proofs.ExactSums.{twice-small, twice-normal}
 use Rattle.binary32_arithmetic.proofs.exact.doubled.Statement.{statement}
 use Rattle.binary32_arithmetic.proofs.exact.doubled.Tie as tie
 
@@ -8,7 +8,7 @@ returns : tie.Need-returns
 returns c = twice-small (c .before .args .x) (c .before .pre) (c .if1 .taken)
 
 returns-2 : tie.Need-returns-2
-returns-2 c = twice-least (c .before .before .args .x) (c .before .before .pre) (c .before .if1 .left)
+returns-2 c = twice-normal (c .before .before .args .x) (c .before .before .pre) (c .before .if1 .left)
 
 pub doubled-spec : {M : Type 1} → statement M
 doubled-spec = tie.close (tie.spec (λ c. search needs) returns (λ c. search needs) returns-2)
