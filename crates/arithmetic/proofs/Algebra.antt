@@ -64,7 +64,7 @@ module _ (f : Format) (d : ℕ) (a b : Number) where
 
   -- ---- the difference is the sum with the second number negated
   pub subtracted-negated : {c : Number} → negated f b ≡ gives c → subtracted f d a b ≡ summed f d a c
-  unfolding negated subtracted summed all
+  unfolding subtracted summed all
   subtracted-negated {c} h = go (checks-end f [] (b ∷ []) (gives (number f (not (b .negative)) (magnitude f b)))) h
     where
       go : {g : Given Number} → Checks f [] (b ∷ []) (gives (number f (not (b .negative)) (magnitude f b))) g → g ≡ gives c → subtracted f d a b ≡ summed f d a c

@@ -1,16 +1,11 @@
 -- Demand 3: every triple of two numbers of a binary format is within the bound.
 use Rattle.theory.proofs.Prelude.{ℕ, _≤_, _<_, _^_, _*_, _-_, true, ⊎-elim, inl, inr, _⊎_, _∙_, ap, _≡_, sym, refl, subst, arith, ℤ, _+ℤ_, natAbs, _-ℤ_, leb-true, eqb-true, ltb-true}
-use Rattle.theory.specs.Place.{Positional}
-use Rattle.theory.specs.Wide.{Wide}
-use Rattle.theory.specs.Signed.{WideZ}
-use Rattle.theory.specs.Units.{ufp, ulp}
-use Rattle.theory.specs.Faithful.{Faithful}
+use Rattle.theory.proofs.Words.{Positional, Wide, ufp, ulp, WideZ, Faithful}
 use Rattle.theory.proofs.Tests.{and-left, and-right, or-cases}
 use Rattle.theory.proofs.Powers.{pow-pos, pow-mono}
 use Rattle.theory.proofs.Integers.{above, below, size-signed, diff-parts, size-parts}
 use Rattle.theory.proofs.FastTwoSum.{WideTriple, triple-close}
-use Rattle.format.specs.declared.Format.{Format}
-use Rattle.format.proofs.Signed.{apart}
+use Rattle.number.proofs.Prelude.{Format, apart}
 use Rattle.number.specs.declared.Number.{Number}
 use Rattle.number.specs.Numbers.{placeOf, normal, small, isZero, member, magnitude, value}
 use Rattle.fast_two_sum.specs.Triples.{Summands, Triple, Bound, distance}

@@ -2,25 +2,17 @@
 -- rounded in the first direction is too large; then, and only then, it refuses. The check says yes exactly to a triple. And the order
 -- of the refusals of both, for every input.
 use Rattle.theory.proofs.Prelude.{ℕ, true, false, Bool, [], _∷_, _∙_, ap, _≡_, sym, refl, subst, arith, ℤ, _+ℤ_, natAbs, _-ℤ_}
-use Rattle.theory.specs.Lists.{all}
-use Rattle.theory.specs.Place.{Positional}
+use Rattle.theory.proofs.Words.{all, Positional, WideZ, roundZ}
 use Rattle.theory.specs.declared.Direction.{Direction}
-use Rattle.theory.specs.Signed.{WideZ, roundZ}
 use Rattle.theory.proofs.Tests.{never, and-left, and-right, and-made, unless-failed}
 use Rattle.theory.proofs.Round.{Nearest}
 use Rattle.theory.proofs.Faithful.{roundZ-faithful}
 use Rattle.theory.proofs.FastTwoSum.{WideTriple, rounded-triple, z-at-most, y-at-most, nearest-exact}
-use Rattle.format.specs.declared.Format.{Format}
+use Rattle.number.proofs.Prelude.{Format, Given, gives, refused, admitted, member, value, checked, members, member-greatest}
+use Rattle.number.specs.declared.Number.{Number}
 use Rattle.format.specs.Directions.{isDirection, direction}
-use Rattle.format.specs.Formats.{admitted}
-use Rattle.format.specs.Given.{Given, gives, refused}
 use Rattle.format.proofs.Formats.{Admitted, admits, admitted-made, positional}
 use Rattle.format.proofs.GivenLaws.{gives-same, gives-not-refused}
-use Rattle.number.specs.declared.Number.{Number}
-use Rattle.number.specs.Numbers.{member, value}
-use Rattle.number.specs.Checks.{checked}
-use Rattle.number.proofs.Membership.{members}
-use Rattle.number.proofs.Values.{member-greatest}
 use Rattle.number.proofs.CheckLaws.{checked-passed, pair-made}
 use Rattle.arithmetic.specs.Operations.{roundedSum, roundedDifference}
 use Rattle.arithmetic.specs.Outcomes.{RoundedNumber, Outcome, given, too-large as beyond}

@@ -1,19 +1,12 @@
 -- The check's test is the paper's faithfulness: what is computed from two roundings, and what a passed check says.
 use Rattle.theory.proofs.Prelude.{true, false, Bool, ⊎-elim, inl, inr, _⊎_, _∙_, ap, _≡_, sym, arith, ℤ, natAbs}
-use Rattle.theory.specs.Tests.{_and_, _or_}
+use Rattle.theory.proofs.Words.{_and_, _or_, roundZ, Faithful}
 use Rattle.theory.specs.declared.Direction.{Direction}
 use Rattle.theory.specs.declared.Direction.the-variants.{Upward, Downward}
-use Rattle.theory.specs.Signed.{roundZ}
-use Rattle.theory.specs.Faithful.{Faithful}
 use Rattle.theory.proofs.Tests.{and-left, and-right, and-made, or-cases, or-left, or-right, refuted}
 use Rattle.theory.proofs.Faithful.{faithful-cases, cases-faithful}
-use Rattle.format.specs.declared.Format.{Format}
-use Rattle.format.specs.Given.{Given}
-use Rattle.format.proofs.Formats.{Admitted, positional}
+use Rattle.number.proofs.Prelude.{Format, Given, Admitted, positional, equalZ, member, value, Member, equal-true, equal-made, member-greatest}
 use Rattle.number.specs.declared.Number.{Number}
-use Rattle.number.specs.Numbers.{equalZ, member, value}
-use Rattle.number.proofs.Membership.{Member, equal-true, equal-made}
-use Rattle.number.proofs.Values.{member-greatest}
 use Rattle.arithmetic.specs.Operations.{roundedZ}
 use Rattle.arithmetic.specs.Outcomes.{Outcome, given, too-large}
 use Rattle.arithmetic.proofs.Outcome.{roundedZ-outcome}

@@ -1,13 +1,11 @@
 -- Refusals 6 and 7, which the sum and its check share, and the order of all refusals before them.
 use Rattle.theory.proofs.Prelude.{ℕ, _≤_, _<_, true, false, Bool, _∷_, List, inl, inr, _⊎_, _∙_, ap, _≡_, sym, refl, eqb, leb, eq-eqb, le-leb, leb-true, lt-leb, leb-false, eqb-true, eqb-false}
-use Rattle.theory.specs.Lists.{all}
-use Rattle.theory.specs.Tests.{_and_, unless}
+use Rattle.theory.proofs.Words.{_and_, unless, all}
 use Rattle.theory.proofs.Tests.{and-left, and-right, and-made, unless-passed, unless-failed}
-use Rattle.format.specs.declared.Format.{Format}
+use Rattle.number.proofs.Prelude.{Format, magnitude}
+use Rattle.number.specs.declared.Number.{Number}
 use Rattle.format.specs.declared.Verdict.{Verdict}
 use Rattle.format.specs.Given.{Given, gives, refused, _then_, verdictGiven}
-use Rattle.number.specs.declared.Number.{Number}
-use Rattle.number.specs.Numbers.{magnitude}
 use Rattle.number.specs.Checks.{checked, Checks}
 use Rattle.number.specs.Checks as checks
 use Rattle.number.proofs.CheckLaws.{checks-end}

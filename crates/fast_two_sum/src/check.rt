@@ -8,10 +8,9 @@ use format::Prepared;
 use format::Verdict;
 use number::Number;
 use number::NumberAnswer;
-use number::Ordering;
 use number::checks::enter_two;
 use number::checks::with_number;
-use number::order::compare_values;
+use number::order::same_value;
 use number::signs::with_sign;
 use theory::Direction;
 ghost use mathlib.Core.Path.{_≡_};
@@ -20,23 +19,11 @@ ghost use mathlib.Core.List.{[], _∷_};
 ghost use lib.IntN.{_+ℤ_, _-ℤ_};
 ghost use Rattle.format.specs.Formats.{admitted};
 ghost use Rattle.format.specs.Given.{gives};
-ghost use Rattle.number.specs.Numbers.{equalZ, member, value};
+ghost use Rattle.number.specs.Numbers.{member, value};
 ghost use Rattle.number.specs.Answers.{numberGiven};
 ghost use Rattle.number.specs.Checks.{Operand, Operands, entered};
 ghost use Rattle.fast_two_sum.specs.Answers.{checkGiven};
 ghost use Rattle.fast_two_sum.specs.Checks.{isResult, isFaithful, isTriple, checkedTriple};
-
-// Have a and b one value?
-fn same_value(format: Format, a: Number, b: Number) -> bool
-    requires { ⌜ (admitted format ≡ true) × (member format a ≡ true) × (member format b ≡ true) ⌝ }
-    ensures { λ r. ⌜ r ≡ equalZ (value format a) (value format b) ⌝ }
-{
-    match compare_values(format, a, b) {
-        Ordering::Less => false,
-        Ordering::Equal => true,
-        Ordering::Greater => false,
-    }
-}
 
 // Has x the value that a step gave? A step that is too large gave none.
 fn is_result(format: Format, step: NumberAnswer, x: Number) -> bool

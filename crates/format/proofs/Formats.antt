@@ -1,7 +1,6 @@
 -- What an admitted format has, as facts on natural numbers that `omega` reads, and how it is made.
 use Rattle.theory.proofs.Prelude.{_≤_, _+_, _^_, _*_, _-_, true, _∙_, ap, _≡_, refl, mul-comm, arith, leb, ℤ, pos, _-ℤ_, negsuc, leZ, le-leb, leb-true}
-use Rattle.theory.specs.Tests.{_and_}
-use Rattle.theory.specs.Place.{Positional}
+use Rattle.theory.proofs.Words.{_and_, Positional}
 use Rattle.theory.proofs.Tests.{and-left, and-right, and-made}
 use Rattle.theory.proofs.Integers.{above, below, diff-parts}
 use Rattle.theory.proofs.Powers.{pow-mono, pow-pred}

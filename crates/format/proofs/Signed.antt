@@ -1,11 +1,11 @@
 -- Signed numbers of 32 bits: what a test of order says, as a fact on natural numbers that `omega` reads, and when a result fits.
 -- An integer is its part above 0 less its part below 0.
-use Rattle.theory.proofs.Prelude.{_≤_, _<_, _+_, _^_, true, false, _∙_, ap, _≡_, sym, refl, arith, T, ℤ, pos, negsuc, ltZ, leZ, w32, SFits, toZ, ofZ, le-leb, leb-true, leb-false, le-ltb, lt-ltb, ltb-true, ltb-false}
+use Rattle.theory.proofs.Prelude.{_≤_, _<_, _+_, _^_, true, false, _≡_, sym, refl, arith, T, ℤ, pos, negsuc, ltZ, leZ, w32, SFits, toZ, ofZ, subst, Bool, _∙_, lt-of-not-le, le-of-suc-le-suc, suc}
 use Prim.Native.Nat.{min}
-use lib.Signed.{nonNeg}
+use lib.Signed.{nonNeg, leZ-yes, ltZ-yes}
 use mir.ValLaws.{toZ-ofZ}
-use Rattle.theory.proofs.Integers.{above, below}
-use Rattle.theory.proofs.Tests.{never}
+use Rattle.theory.proofs.Integers.{above, below, le-parts, parts-le, lt-parts, parts-lt}
+use Rattle.theory.proofs.Tests.{never, refuted}
 
 -- a is at most b, and less than b
 abbrev pub Upto : ℤ → ℤ → Type 0
@@ -20,47 +20,29 @@ apart (pos n) = omega arith
 apart (negsuc n) = omega arith
 
 -- ---- tests of order, passed and failed, and made
-pub le-true : (a b : ℤ) → leZ a b ≡ true → Upto a b
-le-true (pos a) (pos b) h = omega (arith, leb-true a b h)
-le-true (pos a) (negsuc b) h = absurd (never (sym h))
-le-true (negsuc a) (pos b) h = omega arith
-le-true (negsuc a) (negsuc b) h = omega (arith, leb-true b a h)
+holds : (t : Bool) → T t → t ≡ true
+holds true h = refl
 
-pub le-false : (a b : ℤ) → leZ a b ≡ false → Under b a
-le-false (pos a) (pos b) h = omega (arith, leb-false a b h)
-le-false (pos a) (negsuc b) h = omega arith
-le-false (negsuc a) (pos b) h = absurd (never h)
-le-false (negsuc a) (negsuc b) h = omega (arith, leb-false b a h)
+pub le-true : (a b : ℤ) → leZ a b ≡ true → Upto a b
+le-true a b h = le-parts (leZ-yes {a = a} {b = b} (subst T (sym h) tt))
 
 pub lt-true : (a b : ℤ) → ltZ a b ≡ true → Under a b
-lt-true (pos a) (pos b) h = omega (arith, ltb-true a b h)
-lt-true (pos a) (negsuc b) h = absurd (never (sym h))
-lt-true (negsuc a) (pos b) h = omega arith
-lt-true (negsuc a) (negsuc b) h = omega (arith, ltb-true b a h)
-
-pub lt-false : (a b : ℤ) → ltZ a b ≡ false → Upto b a
-lt-false (pos a) (pos b) h = omega (arith, ltb-false a b h)
-lt-false (pos a) (negsuc b) h = omega arith
-lt-false (negsuc a) (pos b) h = absurd (never h)
-lt-false (negsuc a) (negsuc b) h = omega (arith, ltb-false b a h)
+lt-true a b h = lt-parts (ltZ-yes {a = a} {b = b} (subst T (sym h) tt))
 
 pub make-le : (a b : ℤ) → Upto a b → leZ a b ≡ true
-make-le (pos a) (pos b) h = le-leb a b (omega arith)
-make-le (pos a) (negsuc b) h = absurd (omega arith)
-make-le (negsuc a) (pos b) h = refl
-make-le (negsuc a) (negsuc b) h = le-leb b a (omega arith)
+make-le a b h = holds (leZ a b) (parts-le a b h .le)
 
 pub make-lt : (a b : ℤ) → Under a b → ltZ a b ≡ true
-make-lt (pos a) (pos b) h = lt-ltb a b (omega arith)
-make-lt (pos a) (negsuc b) h = absurd (omega arith)
-make-lt (negsuc a) (pos b) h = refl
-make-lt (negsuc a) (negsuc b) h = lt-ltb b a (omega arith)
+make-lt a b h = holds (ltZ a b) (parts-lt a b h .lt)
+
+pub le-false : (a b : ℤ) → leZ a b ≡ false → Under b a
+le-false a b h = lt-of-not-le (λ (l : above a + below b ≤ above b + below a). never (sym (make-le a b l) ∙ h))
+
+pub lt-false : (a b : ℤ) → ltZ a b ≡ false → Upto b a
+lt-false a b h = le-of-suc-le-suc (lt-of-not-le (λ (l : suc (above a + below b) ≤ above b + below a). never (sym (make-lt a b l) ∙ h)))
 
 pub make-ge : (a b : ℤ) → Upto b a → ltZ a b ≡ false
-make-ge (pos a) (pos b) h = le-ltb a b (omega arith)
-make-ge (pos a) (negsuc b) h = refl
-make-ge (negsuc a) (pos b) h = absurd (omega arith)
-make-ge (negsuc a) (negsuc b) h = le-ltb b a (omega arith)
+make-ge a b h = sym (refuted (λ t. omega (arith, lt-true a b t)))
 
 -- ---- 32 bits
 pub fits : (z : ℤ) → above z < 2 ^ 31 → below z ≤ 2 ^ 31 → SFits w32 z
@@ -85,6 +67,3 @@ module _ (a b : ℤ) (f : SFits w32 a) (g : SFits w32 b) where
 
   pub le-read : leZ (toZ w32 (ofZ w32 a)) (toZ w32 (ofZ w32 b)) ≡ leZ a b
   le-read = rw (back f, back g)
-
-  pub eq-taken : ofZ w32 a ≡ ofZ w32 b → a ≡ b
-  eq-taken h = sym (back f) ∙ ap (toZ w32) h ∙ back g

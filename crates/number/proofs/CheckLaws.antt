@@ -1,8 +1,7 @@
 -- The checks that every call begins with: what a passed check gives, what a failed one refuses, and how one more direction or
 -- number changes it.
 use Rattle.theory.proofs.Prelude.{ℕ, true, false, Bool, [], _∷_, List, _∙_, ap, _≡_, sym, refl, arith}
-use Rattle.theory.specs.Lists.{all}
-use Rattle.theory.specs.Tests.{_and_, unless}
+use Rattle.theory.proofs.Words.{_and_, unless, all}
 use Rattle.theory.proofs.Tests.{and-left, and-right, and-made, unless-passed, unless-failed}
 use Rattle.format.specs.declared.Format.{Format}
 use Rattle.format.specs.declared.Prepared.{Prepared}

@@ -4,18 +4,13 @@ use Rattle.theory.proofs.Prelude.{true, [], _∷_, _∙_, ap, _≡_, sym, refl,
 use Rattle.theory.specs.Lists.{all}
 use Rattle.theory.proofs.Tests.{and-left, and-right}
 use Rattle.theory.proofs.Integers.{lt-parts, parts-lt}
-use Rattle.format.specs.declared.Format.{Format}
-use Rattle.format.specs.Given.{Given, gives}
-use Rattle.format.specs.Formats.{admitted}
-use Rattle.format.proofs.Formats.{admits}
-use Rattle.format.proofs.GivenLaws.{gives-same, gives-not-refused}
+use Rattle.number.proofs.Prelude.{Format, Given, gives, admitted, admits, member, value, members}
 use Rattle.number.specs.declared.Number.{Number}
+use Rattle.format.proofs.GivenLaws.{gives-same, gives-not-refused}
 use Rattle.number.specs.declared.Ordering.{Ordering}
 use Rattle.number.specs.declared.Ordering.the-variants.{Less, Equal, Greater}
-use Rattle.number.specs.Numbers.{member, value}
 use Rattle.number.specs.Checks.{Checks, not-admitted, no-direction, not-member, all-passed}
 use Rattle.number.specs.Order.{orderZ, compared}
-use Rattle.number.proofs.Membership.{members}
 use Rattle.number.proofs.Values.{member-unique}
 use Rattle.number.proofs.CheckLaws.{checked-passed, checks-end, pair-made}
 use Rattle.number.proofs.Comparison.{less-says, equal-says, greater-says, less-when, greater-when}

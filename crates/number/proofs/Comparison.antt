@@ -4,16 +4,12 @@ use Rattle.theory.specs.Signed.{signed}
 use Rattle.theory.proofs.Tests.{never}
 use Rattle.theory.proofs.Integers.{above, below, neg-above, neg-below, diff-parts, size-parts, parts-eq, parts-lt, lt-parts}
 use Rattle.theory.proofs.Powers.{pow-pos, pow-pred, pow-mono}
-use Rattle.format.specs.declared.Format.{Format}
-use Rattle.format.specs.declared.Refusal.{Refusal}
-use Rattle.format.proofs.Signed.{Upto, Under, apart, lt-true, lt-false, make-lt, make-ge}
-use Rattle.format.proofs.Formats.{Admitted}
+use Rattle.number.proofs.Prelude.{Format, Admitted, placeOf, magnitude, value, Member}
 use Rattle.number.specs.declared.Number.{Number}
+use Rattle.format.proofs.Signed.{Upto, Under, apart, lt-true, lt-false, make-lt, make-ge}
 use Rattle.number.specs.declared.Ordering.{Ordering}
 use Rattle.number.specs.declared.Ordering.the-variants.{Less, Equal, Greater}
-use Rattle.number.specs.Numbers.{placeOf, magnitude, value}
 use Rattle.number.specs.Order.{ordered, orderN, orderZ}
-use Rattle.number.proofs.Membership.{Member}
 
 -- digits of a higher place outweigh all below
 outweighed : (β q m n j k : ℕ) → 2 ≤ β → m < β * β ^ q → β ^ q ≤ n → j < k → m * β ^ j < n * β ^ k
@@ -102,10 +98,6 @@ pub less-when : {v w : ℤ} → v <ℤ w → orderZ v w ≡ Less
 unfolding orderZ
 less-when {v} {w} h = rw (make-lt v w (lt-parts h))
 
-pub equal-when : (v : ℤ) → orderZ v v ≡ Equal
-unfolding orderZ
-equal-when v = rw (make-ge v v (omega arith))
-
 pub greater-when : {v w : ℤ} → w <ℤ v → orderZ v w ≡ Greater
 unfolding orderZ
 greater-when {v} {w} h = rw (make-ge v w (let l = lt-parts h in omega arith), make-lt w v (lt-parts h))
@@ -117,24 +109,9 @@ record Says (lt gt : Bool) (r : Ordering) : Type 0 where
   greater : r ≡ Greater → gt ≡ true
 
 says : (lt gt : Bool) → Says lt gt (ordered lt gt)
-says true gt =
-    record {
-      less = λ h. refl;
-      equal = λ h. absurd (let z : _≡_ {A = ℕ} 0 1 = cc in omega arith);
-      greater = λ h. absurd (let z : _≡_ {A = ℕ} 0 1 = cc in omega arith);
-    }
-says false true =
-    record {
-      less = λ h. absurd (let z : _≡_ {A = ℕ} 0 1 = cc in omega arith);
-      equal = λ h. absurd (let z : _≡_ {A = ℕ} 0 1 = cc in omega arith);
-      greater = λ h. refl;
-    }
-says false false =
-    record {
-      less = λ h. absurd (let z : _≡_ {A = ℕ} 0 1 = cc in omega arith);
-      equal = λ h. (refl, refl);
-      greater = λ h. absurd (let z : _≡_ {A = ℕ} 0 1 = cc in omega arith);
-    }
+says true gt = record { less = λ h. refl; equal = λ h. (cc, cc); greater = λ h. cc }
+says false true = record { less = λ h. cc; equal = λ h. (refl, cc); greater = λ h. refl }
+says false false = record { less = λ h. cc; equal = λ h. (refl, refl); greater = λ h. cc }
 
 pub less-says : {v w : ℤ} → orderZ v w ≡ Less → v <ℤ w
 unfolding orderZ

@@ -2,6 +2,7 @@
 pub mod Membership
 pub mod Values
 pub mod CheckLaws
+pub mod Prelude
 pub mod Comparison
 pub mod Compared
 pub mod Negation

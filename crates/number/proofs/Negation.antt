@@ -2,11 +2,8 @@
 use Rattle.theory.proofs.Prelude.{suc, zero, false, Bool, not, _∙_, ap, _≡_, sym, refl, ℤ, pos, negsuc, negℤ}
 use Rattle.theory.specs.Signed.{signed}
 use Rattle.theory.proofs.Integers.{negate-signed}
-use Rattle.format.specs.declared.Format.{Format}
-use Rattle.format.proofs.Formats.{Admitted}
+use Rattle.number.proofs.Prelude.{Format, Admitted, magnitude, value, number, Member}
 use Rattle.number.specs.declared.Number.{Number}
-use Rattle.number.specs.Numbers.{magnitude, value, number}
-use Rattle.number.proofs.Membership.{Member}
 use Rattle.number.proofs.Values.{member-wide, member-greatest, number-value, number-member, member-unique}
 
 negated-back : (v : ℤ) → negℤ (negℤ v) ≡ v

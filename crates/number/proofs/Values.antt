@@ -1,17 +1,13 @@
 -- Numbers and their exact values: a number of the format is the canonical number of its value, and the canonical number of a
 -- magnitude of the wide format up to the greatest is in the format and has that value.
-use Rattle.theory.proofs.Prelude.{ℕ, _≤_, _<_, _+_, _^_, _*_, _-_, suc, zero, _/_, true, false, Bool, not, _&&_, ⊎-elim, inl, inr, _⊎_, _∙_, ap, _≡_, sym, refl, ap₂, subst, mul-le-mul-left, pow-zero, mul-pos, mul-lt-mul-of-pos-right, mul-le-mul, zero-mul, mul-div-cancel, le-refl, arith, eqb, leb, ℤ, pos, _+ℤ_, natAbs, _-ℤ_, ne-eqb, eq-eqb, le-leb, leb-true, lt-leb, leb-false}
+use Rattle.theory.proofs.Prelude.{ℕ, _≤_, _<_, _+_, _^_, _*_, _-_, suc, zero, _/_, true, false, Bool, not, _&&_, ⊎-elim, inl, inr, _⊎_, _∙_, ap, _≡_, sym, refl, ap₂, subst, mul-le-mul-left, pow-zero, mul-pos, mul-lt-mul-of-pos-right, mul-le-mul, zero-mul, mul-div-cancel, le-refl, arith, eqb, leb, ℤ, pos, _+ℤ_, natAbs, _-ℤ_, ne-eqb, eq-eqb, leb-true, leb-false}
 use native.Mathlib.Nat.{mul-lt-mul-of-pos-left}
-use Rattle.theory.specs.Place.{place, step}
-use Rattle.theory.specs.Wide.{Wide, Canonical}
-use Rattle.theory.specs.Signed.{signed}
+use Rattle.theory.proofs.Words.{unless, place, step, Wide, Canonical, signed}
 use Rattle.theory.proofs.Integers.{above, below, sum-parts, diff-parts, size-parts, parts-eq, size-signed}
 use Rattle.theory.proofs.Powers.{pow-add, pow-pos, pow-pred, pow-mono, pow-half}
 use Rattle.theory.proofs.Place.{place-le}
 use Rattle.theory.proofs.Wide.{wide-pow}
 use Rattle.theory.proofs.Canonical.{canonical-place, canonical-wide, canonical-of, canonical-value}
-use Rattle.theory.specs.Tests.{unless}
-use Rattle.theory.proofs.Tests.{unless-passed, unless-failed}
 use Rattle.format.specs.declared.Format.{Format}
 use Rattle.format.specs.Formats.{exponentsAdmitted, highestPlace}
 use Rattle.format.proofs.Signed.{Upto, apart}
@@ -148,10 +144,6 @@ module _ {f : Format} (a : Admitted f) where
         let r = a .range in
         exponents-made (record { emin-low = r .emin-low; emin-emax = i .exponent-low; emax-high = omega (arith, i .exponent-high) })
 
-    pub member-place : place (f .base) (f .digits) (magnitude f x) ≡ placeOf f x
-    unfolding magnitude
-    member-place = canonical-place (positional a) member-canonical
-
     pub member-wide : Wide (f .base) (f .digits) (magnitude f x)
     unfolding magnitude
     member-wide = canonical-wide (positional a) member-canonical
@@ -217,16 +209,6 @@ module _ {f : Format} (a : Admitted f) where
 
         none : n / step (f .base) (f .digits) n ≡ 0 → n ≡ 0
         none z = sym (canonical-value (positional a) w) ∙ ap (λ (m : ℕ). m * step (f .base) (f .digits) n) z ∙ zero-mul (step (f .base) (f .digits) n)
-
-  -- ---- a result of the wide format
-  module _ {m k : ℕ} (c : Canonical (f .base) (f .digits) m k) (negative : Bool) where
-    pub delivered-within : k ≤ highestPlace f → delivered f negative (m * f .base ^ k) ≡ gives (number f negative (m * f .base ^ k))
-    unfolding delivered
-    delivered-within h = unless-passed _ _ (le-leb _ _ (canonical-within c h))
-
-    pub delivered-beyond : highestPlace f < k → delivered f negative (m * f .base ^ k) ≡ refused 5
-    unfolding delivered
-    delivered-beyond h = unless-failed _ _ (lt-leb _ _ (canonical-beyond c h))
 
   -- two numbers of the format with one value are the same record
   pub member-unique : {x y : Number} → Member f x → Member f y → value f x ≡ value f y → x ≡ y

@@ -17,9 +17,9 @@ abbrev pub signedAnswer : Format → Number → (negative : Bool) → Given Numb
 signedAnswer f x negative = checked f [] (x ∷ []) (gives (number f negative (magnitude f x)))
 
 -- the answer of negate: the other sign, the same magnitude
-unfoldable pub negated : Format → Number → Given Number
+abbrev pub negated : Format → Number → Given Number
 negated f x = signedAnswer f x (not (x .negative))
 
 -- the answer of magnitude
-unfoldable pub unsigned : Format → Number → Given Number
+abbrev pub unsigned : Format → Number → Given Number
 unsigned f x = signedAnswer f x false

@@ -8,7 +8,7 @@ use format::Preparation;
 ghost use mathlib.Core.Path.{_≡_};
 ghost use mathlib.Core.Bool.{true};
 ghost use Rattle.format.specs.Formats.{admitted};
-ghost use Rattle.number.specs.Numbers.{member, magnitude, value};
+ghost use Rattle.number.specs.Numbers.{equalZ, member, magnitude, value};
 ghost use Rattle.number.specs.Answers.{orderGiven};
 ghost use Rattle.number.specs.Order.{orderN, orderZ, compared};
 
@@ -51,6 +51,18 @@ pub fn compare_values(format: Format, a: Number, b: Number) -> Ordering
         return Ordering::Greater;
     }
     compare_magnitudes(format, a, b)
+}
+
+// Have a and b one value?
+pub fn same_value(format: Format, a: Number, b: Number) -> bool
+    requires { ⌜ (admitted format ≡ true) × (member format a ≡ true) × (member format b ≡ true) ⌝ }
+    ensures { λ r. ⌜ r ≡ equalZ (value format a) (value format b) ⌝ }
+{
+    match compare_values(format, a, b) {
+        Ordering::Less => false,
+        Ordering::Equal => true,
+        Ordering::Greater => false,
+    }
 }
 
 // Which of two numbers is the greater? Refuses 1, 3.

@@ -1,9 +1,7 @@
 -- Figure 1, line by line: under its premise no line passes the greatest number, so each gives the theory's value.
 use Rattle.theory.proofs.Prelude.{ℕ, _≤_, _<_, _+_, _^_, _*_, _-_, suc, zero, _∙_, ap, _≡_, sym, refl, decLe, mul-le-mul-right, mul-le-mul-left, le-trans, arith, ℤ, pos, natAbs}
-use Rattle.theory.specs.Place.{Positional, place}
-use Rattle.theory.specs.Neighbours.{lower}
+use Rattle.theory.proofs.Words.{Positional, place, lower, ufp}
 use Rattle.theory.specs.declared.Direction.the-variants.{TowardZero}
-use Rattle.theory.specs.Units.{ufp}
 use Rattle.theory.specs.Rump.{sum, difference, product, belowOne, scaledUp, ufpByFigure1}
 use Rattle.theory.proofs.Powers.{pow-add, pow-pos, pow-mono, pow-pred}
 use Rattle.theory.proofs.Wide.{wide-phi}
@@ -11,12 +9,8 @@ use Rattle.theory.proofs.Neighbours.{lower-exact}
 use Rattle.theory.proofs.Units.{ufp-le, ufp-power}
 use Rattle.theory.proofs.Operations.{sum-toward-zero}
 use Rattle.theory.proofs.FirstPlace.{scaled, below-one-is, scaled-up-is, scaled-up-most, shrunk-is, ufp-toward-zero-is}
-use Rattle.format.specs.declared.Format.{Format}
-use Rattle.format.specs.Formats.{highestPlace}
-use Rattle.format.proofs.Formats.{positional}
+use Rattle.number.proofs.Prelude.{Format, highestPlace, positional, belowZero, greatest}
 use Rattle.number.specs.declared.Number.{Number}
-use Rattle.number.specs.Exponents.{belowZero}
-use Rattle.number.specs.Numbers.{greatest}
 use Rattle.arithmetic.specs.Operations.{roundedSum, roundedDifference, roundedProduct}
 use Rattle.rump.specs.Figures.{one, power, subrealmin, figure1}
 use Rattle.rump.proofs.Reach.{First, one-positive, power-most, constant-most}

@@ -1,23 +1,16 @@
 -- Figures 3, 4 and 5, line by line: under their premise no line passes the number after |x|, so each gives the theory's value.
 use Rattle.theory.proofs.Prelude.{ℕ, _≤_, _+_, _*_, _-_, true, cond, _∙_, ap, _≡_, sym, refl, le-trans, arith, ℤ, pos}
 use lib.IntN.{ℤ-discrete, *ℤ-comm}
-use Rattle.theory.specs.Place.{Positional}
+use Rattle.theory.proofs.Words.{Positional, ulp, roundZ}
 use Rattle.theory.specs.declared.Direction.the-variants.{TowardZero, Upward}
-use Rattle.theory.specs.Signed.{roundZ}
-use Rattle.theory.specs.Units.{ulp}
 use Rattle.theory.specs.Rump.{sum, difference, product, ulpByFigure3, gapBelow, gapDefect, ulpByFigure5}
 use Rattle.theory.proofs.Tests.{refuted}
 use Rattle.theory.proofs.Wide.{wide-base-pred}
 use Rattle.theory.proofs.Neighbours.{lower-le}
 use Rattle.theory.proofs.Operations.{difference-toward-zero, difference-exact}
 use Rattle.theory.proofs.LastPlace.{Unbranched, successor-most, sum-upward-is, ulp-upward-is, unbranched, ulp-if-same, ulp-if-other}
-use Rattle.format.specs.declared.Format.{Format}
-use Rattle.format.specs.Given.{gives}
-use Rattle.format.proofs.Formats.{positional}
+use Rattle.number.proofs.Prelude.{Format, gives, positional, belowZero, equalZ, value, greatest, equal-true, equal-made}
 use Rattle.number.specs.declared.Number.{Number}
-use Rattle.number.specs.Exponents.{belowZero}
-use Rattle.number.specs.Numbers.{equalZ, value, greatest}
-use Rattle.number.proofs.Membership.{equal-true, equal-made}
 use Rattle.number.proofs.Values.{greatest-wide}
 use Rattle.arithmetic.specs.Operations.{roundedSum, roundedDifference, roundedProduct}
 use Rattle.rump.specs.Figures.{one, power, subrealmin, figure3, gap, figure4, defect, figure5}
@@ -71,16 +64,8 @@ module _ {f : Format} {n : ℕ} (k : Last f n) where
   most : {m : ℕ} → m ≤ n + ulp (f .base) (f .digits) n → m ≤ greatest f
   most l = le-trans l next-most
 
-  upward-is : difference (f .base) (f .digits) Upward (next f n) (pos n) ≡ last-place f n
-  unfolding ulpByFigure3
-  upward-is = ulp-upward-is ok (k .wide) (k .some)
-
   values : Unbranched (f .base) (f .digits) (one f) n
   values = unbranched ok (k .wide) (k .some) (one f) (one-positive (k .admits))
-
-  unbranched-is : difference (f .base) (f .digits) TowardZero (S f n) (correction f n) ≡ last-place f n
-  unfolding ulpByFigure5
-  unbranched-is = values .result
 
   -- figure 5, line 6: β - 1
   factor-is : difference (f .base) (f .digits) TowardZero (pos (f .base * one f)) (pos (one f)) ≡ factor f
@@ -108,8 +93,8 @@ module _ {f : Format} {n : ℕ} (k : Last f n) where
         sum-line (k .admits) Upward h (subrealmin-has (k .admits)) refl (most (rw (sum-upward-is ok (k .wide) (k .some)) (omega arith)))
 
     pub figure3-line : Line f (figure3 f x) (last-place f n)
-    unfolding figure3
-    figure3-line = rw (next-line .is) (difference-line (k .admits) Upward (next-line .has) h upward-is (most (omega arith)))
+    unfolding figure3 ulpByFigure3
+    figure3-line = rw (next-line .is) (difference-line (k .admits) Upward (next-line .has) h (ulp-upward-is ok (k .wide) (k .some)) (most (omega arith)))
 
     -- ---- figures 4 and 5
     preceding-line : Line f (roundedDifference f TowardZero x (subrealmin f)) (preceding f n)
@@ -162,7 +147,7 @@ module _ {f : Format} {n : ℕ} (k : Last f n) where
         (most (omega (arith, values .correction-most)))
 
     pub figure5-line : Line f (figure5 f x) (last-place f n)
-    unfolding figure5
+    unfolding figure5 ulpByFigure5
     figure5-line =
         rw (gap-line .is, defect-line .is, factor-line .is, correction-line .is)
-        (difference-line (k .admits) TowardZero (gap-line .has) (correction-line .has) unbranched-is (most (omega arith)))
+        (difference-line (k .admits) TowardZero (gap-line .has) (correction-line .has) (values .result) (most (omega arith)))

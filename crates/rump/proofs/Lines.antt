@@ -2,26 +2,21 @@
 -- number of the format, and the constants.
 use Rattle.theory.proofs.Prelude.{ℕ, _≤_, _+_, _^_, _*_, true, false, xor, _∙_, ap, _≡_, sym, refl, ap₂, subst, pow-zero, mul-one, arith, ℤ, pos, _+ℤ_, natAbs, _-ℤ_, _*ℤ_}
 use native.Mathlib.Nat.{one-mul}
-use Rattle.theory.specs.Wide.{Wide}
+use Rattle.theory.proofs.Words.{Wide, signed, roundZ}
 use Rattle.theory.specs.declared.Direction.{Direction}
-use Rattle.theory.specs.Signed.{signed, roundZ}
 use Rattle.theory.specs.Rump.{sum, difference, product}
 use Rattle.theory.proofs.Integers.{size-signed}
 use Rattle.theory.proofs.Powers.{pow-add, pow-pos}
 use Rattle.theory.proofs.Wide.{wide-pow}
-use Rattle.format.specs.declared.Format.{Format}
-use Rattle.format.specs.Given.{Given, gives}
-use Rattle.format.proofs.Formats.{Admitted, positional}
+use Rattle.number.proofs.Prelude.{Format, Given, gives, Admitted, positional, aboveZero, belowZero, member, magnitude, value, greatest, number, members, member-made}
 use Rattle.number.specs.declared.Number.{Number}
-use Rattle.number.specs.Exponents.{aboveZero, belowZero}
-use Rattle.number.specs.Numbers.{member, magnitude, value, greatest, number}
-use Rattle.number.proofs.Membership.{members, member-made}
+use Rattle.number.specs.declared.NumberAnswer.the-variants.{Value}
 use Rattle.number.proofs.Values.{number-same, number-of, own-sign, number-member, number-value, one-greatest}
 use Rattle.wide.proofs.Signs.{signed-times}
 use Rattle.arithmetic.specs.Operations.{roundedSum, roundedDifference, roundedProduct}
 use Rattle.arithmetic.specs.Outcomes.{Outcome, given, too-large}
 use Rattle.arithmetic.proofs.Outcome.{rounded-outcome, roundedZ-outcome}
-use Rattle.rump.specs.Figures.{one, power, subrealmin}
+use Rattle.rump.specs.Figures.{one, power, subrealmin, Answers}
 use Rattle.rump.proofs.Reach.{Reach, first-power, constant-most}
 
 -- ---- numbers
@@ -95,3 +90,6 @@ module _ {f : Format} (a : Admitted f) where
 
   pub base-has : Reach f → Has f (power f 1) (pos (f .base * one f))
   base-has r = subst (λ (n : ℕ). Has f (power f 1) (pos (n * one f))) (first-power (f .base)) (power-has r 1 (a .digits-low))
+
+pub constant-answers : {f : Format} {x y : Number} {v : ℤ} → Has f y v → x ≡ y → Answers f (gives y) (Value x)
+constant-answers {f} h e = record { is = ap gives e; settled = ap (member f) e ∙ h .number }

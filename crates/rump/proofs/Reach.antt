@@ -1,24 +1,19 @@
 -- The premises of the routes, as facts on natural numbers that `omega` reads: the constants of the figures are within the format.
 use Rattle.theory.proofs.Prelude.{ℕ, _≤_, _<_, _+_, _^_, _*_, _-_, true, false, Bool, not, _∙_, _≡_, sym, refl, subst, mul-le-mul-right, pow-zero, mul-one, arith, eqb, leb, ltb, pos, _-ℤ_, negℤ, ne-eqb, leb-true, leb-false, eqb-true, le-ltb, lt-ltb, ltb-true, eqb-false}
-use Rattle.theory.specs.Tests.{_and_}
-use Rattle.theory.specs.Wide.{Wide}
+use Rattle.theory.proofs.Words.{_and_, Wide}
 use Rattle.theory.proofs.Tests.{and-left, and-right, and-made, not-true, refuted}
 use Rattle.theory.proofs.Integers.{neg-above, neg-below, size-parts}
 use Rattle.theory.proofs.Powers.{pow-add, pow-pos, pow-pred, pow-mono, pow-lt}
-use Rattle.format.specs.declared.Format.{Format}
-use Rattle.format.specs.declared.Prepared.{Prepared}
-use Rattle.format.specs.Formats.{highestPlace}
+use Rattle.number.proofs.Prelude.{Format, Prepared, highestPlace, aboveZero, belowZero, member, magnitude, greatest, Usable, members, known}
+use Rattle.number.specs.declared.Number.{Number}
 use Rattle.format.proofs.Signed.{apart, le-true, make-le}
 use Rattle.format.proofs.Formats.{Admitted, distances}
-use Rattle.number.specs.declared.Number.{Number}
-use Rattle.number.specs.Exponents.{aboveZero, belowZero}
-use Rattle.number.specs.Checks.{Usable}
-use Rattle.number.specs.Numbers.{member, magnitude, greatest}
-use Rattle.number.proofs.Membership.{members, known}
 use Rattle.number.proofs.Values.{member-wide, member-greatest}
 use Rattle.arithmetic.proofs.Prepared.{parts-above, parts-below}
+use Rattle.rump.specs.declared.Figure.{Figure}
+use Rattle.rump.specs.declared.Figure.the-variants as figure
 use Rattle.rump.specs.Figures.{one}
-use Rattle.rump.specs.Premises.{premise, firstPremise, lastPremise}
+use Rattle.rump.specs.Premises.{premise, firstPremise, lastPremise, premiseOf}
 
 pub first-power : (β : ℕ) → β ^ 1 ≡ β
 first-power β = pow-pred β {k = 1} (omega arith) ∙ rw (pow-zero β) (mul-one β)
@@ -123,13 +118,13 @@ module _ {q : Prepared} (u : Usable q) (x : Number) where
       }
 
 -- ---- how they are decided
-pub first-format : (f : Format) (x : Number) → firstPremise f x ≡ true → premise f ≡ true
-unfolding firstPremise
-first-format f x h = and-left _ _ h
-
-pub last-format : (f : Format) (x : Number) → lastPremise f x ≡ true → premise f ≡ true
-unfolding lastPremise
-last-format f x h = and-left _ _ h
+-- the premise of each figure is one of the format too
+pub of-format : (figure : Figure) (f : Format) (x : Number) → premiseOf figure f x ≡ true → premise f ≡ true
+unfolding firstPremise lastPremise
+of-format figure.First f x h = and-left _ _ h
+of-format figure.Third f x h = and-left _ _ h
+of-format figure.Fourth f x h = and-left _ _ h
+of-format figure.Fifth f x h = and-left _ _ h
 
 pub first-by : (f : Format) (x : Number) → premise f ≡ true → ltb (magnitude f x) (f .base ^ (highestPlace f + 1 - f .digits)) ≡ firstPremise f x
 unfolding firstPremise _and_

@@ -2,22 +2,15 @@
 -- the place, so that the route answers what units::ufp or units::ulp answers; where the premise fails, a number of the format is
 -- refused by 8, after 1 and 3. In binary16 the premise always fails, as Emax is less than p.
 use Rattle.theory.proofs.Prelude.{ℕ, true, false, Bool, [], _∷_, _∙_, ap, _≡_, refl, pos}
-use Rattle.theory.specs.Lists.{all}
-use Rattle.theory.specs.Tests.{_and_, unless}
-use Rattle.theory.specs.Units.{ufp, ulp}
+use Rattle.theory.proofs.Words.{_and_, unless, all, ufp, ulp}
 use Rattle.theory.proofs.Tests.{and-left, unless-passed, unless-failed}
-use Rattle.format.specs.declared.Format.{Format}
-use Rattle.format.specs.Given.{Given, gives, refused}
-use Rattle.format.specs.Formats.{admitted}
+use Rattle.number.proofs.Prelude.{Format, Given, gives, refused, admitted, member, magnitude, number, checked, one-checked}
+use Rattle.number.specs.declared.Number.{Number}
 use Rattle.format.specs.Published.{binary16, publishedFormat}
 use Rattle.format.proofs.Formats.{Admitted, admits, admitted-made}
 use Rattle.format.proofs.PublishedFormats.{published-admitted}
-use Rattle.number.specs.declared.Number.{Number}
-use Rattle.number.specs.Numbers.{member, magnitude, number}
-use Rattle.number.specs.Checks.{checked}
 use Rattle.number.proofs.Membership.{Member, members, member-made, usable}
 use Rattle.number.proofs.Negation.{signed-member, unsigned-value}
-use Rattle.number.proofs.CheckLaws.{one-checked}
 use Rattle.units.specs.Places.{firstPlace, lastPlace}
 use Rattle.rump.specs.declared.Figure.{Figure}
 use Rattle.rump.specs.declared.Figure.the-variants.{First, Third, Fourth, Fifth}

@@ -1,14 +1,10 @@
 -- Figure 1 with β = 10, p = 3, Emin = -1, Emax = 3 and 1: Theorem 1.1 of source 000 allows it, and the operations give 10.1.
 use Rattle.theory.proofs.Prelude.{ℕ, false, xor, _≡_, refl, ℤ, pos, negsuc}
-use Rattle.theory.specs.Tests.{unless}
-use Rattle.theory.specs.Place.{place, step}
+use Rattle.theory.proofs.Words.{unless, place, step, roundZ}
 use Rattle.theory.specs.Neighbours.{floorTo, ceilTo, lower, upper, lowerQ, upperQ}
 use Rattle.theory.specs.Round.{location, chosen, takesUpper, round}
-use Rattle.theory.specs.Signed.{roundZ}
-use Rattle.format.specs.declared.Format.{Format}
-use Rattle.format.specs.Given.{gives}
+use Rattle.number.proofs.Prelude.{Format, gives, magnitude, value, greatest, number, delivered}
 use Rattle.number.specs.declared.Number.{Number}
-use Rattle.number.specs.Numbers.{magnitude, value, greatest, number, delivered}
 use Rattle.arithmetic.specs.Operations.{rounded, roundedZ, roundedProduct}
 use Rattle.rump.specs.Figures.{figure1}
 

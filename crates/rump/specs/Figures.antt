@@ -1,14 +1,20 @@
 -- Rump's figures 1, 3, 4 and 5 (source document 000), line by line: each line is one of the engine's operations on numbers of the
 -- format f, and a line that is refused ends the figure. x is |f| of the source.
 use Prim.Native.Nat.{ℕ, _*_, _-_, _^_}
-use mathlib.Core.Bool.{false, cond}
+use mathlib.Core.Path.{_≡_}
+use mathlib.Core.Bool.{true, false, cond}
+use Rattle.theory.specs.declared.Direction.{Direction}
 use Rattle.theory.specs.declared.Direction.the-variants.{TowardZero, Upward}
 use Rattle.format.specs.declared.Format.{Format}
-use Rattle.format.specs.Given.{Given, gives, _then_}
+use Rattle.format.specs.Given.{Given, gives, refused, refusedAt, _then_}
 use Rattle.number.specs.declared.Number.{Number}
+use Rattle.number.specs.declared.NumberAnswer.{NumberAnswer}
+use Rattle.number.specs.Answers.{numberGiven}
 use Rattle.number.specs.Exponents.{belowZero}
-use Rattle.number.specs.Numbers.{equalZ, value, number}
+use Rattle.number.specs.Numbers.{equalZ, member, value, number}
 use Rattle.arithmetic.specs.Operations.{roundedSum, roundedDifference, roundedProduct}
+use Rattle.rump.specs.declared.Operation.{Operation}
+use Rattle.rump.specs.declared.Operation.the-variants.{Sum, Difference, Product}
 
 -- ---- the constants, for Emin at most 0
 -- 1 in units of β ^ Emin
@@ -22,6 +28,26 @@ power f k = number f false (f .base ^ k * one f)
 -- the smallest positive number
 abbrev pub subrealmin : Format → Number
 subrealmin f = number f false 1
+
+-- ---- a line of the code: an operation on what two lines gave, or the refusal that one of them met
+abbrev pub operationOf : Operation → Format → Direction → (a b : Number) → Given Number
+operationOf Sum f d a b = roundedSum f d a b
+operationOf Difference f d a b = roundedDifference f d a b
+operationOf Product f d a b = roundedProduct f d a b
+
+unfoldable pub joined : Operation → Format → Direction → (a b : Given Number) → Given Number
+joined o f d a b = a then λ x. b then λ y. operationOf o f d x y
+
+-- a number of the format, or refusal 5
+abbrev pub Settled : Format → Given Number → Type 0
+Settled f (gives x) = member f x ≡ true
+Settled f (refused number) = number ≡ 5
+Settled f (refusedAt number index) = ⊥
+
+-- r is what is given, which is settled
+pub record Answers (f : Format) (given : Given Number) (r : NumberAnswer) : Type 0 where
+  pub is : numberGiven r ≡ given
+  pub settled : Settled f (numberGiven r)
 
 -- ---- the first place, toward zero: p1 = 1 - subrealmin, phi = β ^ (p - 1) + 1, q = phi x, S = q - p1 q
 unfoldable pub figure1 : Format → Number → Given Number

@@ -1,53 +1,64 @@
 // Rump's figures, line by line: the first place toward zero (figure 1), the last place up (figure 3), toward zero (figure 4), and
 // toward zero without a test (figure 5).
 use crate::Figure;
+use crate::Operation;
 use crate::constants::power;
 use crate::constants::subrealmin;
 use arithmetic::product::multiply;
 use arithmetic::sum::add;
 use arithmetic::sum::subtract;
-use format::Format;
 use format::Prepared;
 use number::Number;
 use number::NumberAnswer;
-use number::Ordering;
-use number::order::compare_values;
+use number::order::same_value;
 use theory::Direction;
 ghost use mathlib.Core.Path.{_≡_};
-ghost use mathlib.Core.Bool.{true};
-ghost use Rattle.format.specs.Formats.{admitted};
 ghost use Rattle.number.specs.Answers.{numberGiven};
-ghost use Rattle.number.specs.Checks.{Operands};
-ghost use Rattle.number.specs.Numbers.{equalZ, member, value};
+ghost use Rattle.number.specs.Checks.{Usable};
 ghost use Rattle.rump.specs.Figures as figures;
-ghost use Rattle.rump.specs.Figures.{figure1, figure3, figure4, figure5};
+ghost use Rattle.rump.specs.Figures.{Settled, Answers, joined, figure1, figure3, figure4, figure5};
 ghost use Rattle.rump.specs.Premises.{Run};
 ghost use Rattle.rump.specs.Routes.{figureOf};
+
+// A line: an operation on what two lines gave, or the refusal that one of them met.
+fn line(
+    prepared: Prepared,
+    operation: Operation,
+    direction: Direction,
+    a: NumberAnswer,
+    b: NumberAnswer,
+) -> NumberAnswer
+    requires { ⌜ Usable prepared × Settled (prepared .format) (numberGiven a) × Settled (prepared .format) (numberGiven b) ⌝ }
+    ensures { λ r. ⌜ Answers (prepared .format) (joined operation (prepared .format) direction (numberGiven a) (numberGiven b)) r ⌝ }
+{
+    let NumberAnswer::Value(x) = a else {
+        return a;
+    };
+    let NumberAnswer::Value(y) = b else {
+        return b;
+    };
+    match operation {
+        Operation::Sum => add(prepared, direction, x, y),
+        Operation::Difference => subtract(prepared, direction, x, y),
+        Operation::Product => multiply(prepared, direction, x, y),
+    }
+}
 
 // Figure 1: p1 = 1 - subrealmin, phi = base^(p - 1) + 1, q = phi * x, S = q - p1 * q.
 fn first_figure(prepared: Prepared, x: Number) -> NumberAnswer
     requires { ⌜ Run prepared x ⌝ }
     ensures { λ r. ⌜ numberGiven r ≡ figure1 (prepared .format) x ⌝ }
 {
+    let direction = Direction::TowardZero;
+    let size = NumberAnswer::Value(x);
     let one = power(prepared, 0);
-    let below_one = subtract(prepared, Direction::TowardZero, one, subrealmin(prepared));
-    let NumberAnswer::Value(p1) = below_one else {
-        return below_one;
-    };
+    let least = subrealmin(prepared);
+    let p1 = line(prepared, Operation::Difference, direction, one, least);
     let lead = power(prepared, prepared.scale.digits - 1);
-    let factor = add(prepared, Direction::TowardZero, lead, one);
-    let NumberAnswer::Value(phi) = factor else {
-        return factor;
-    };
-    let scaled = multiply(prepared, Direction::TowardZero, phi, x);
-    let NumberAnswer::Value(q) = scaled else {
-        return scaled;
-    };
-    let shrunk = multiply(prepared, Direction::TowardZero, p1, q);
-    let NumberAnswer::Value(r) = shrunk else {
-        return shrunk;
-    };
-    subtract(prepared, Direction::TowardZero, q, r)
+    let phi = line(prepared, Operation::Sum, direction, lead, one);
+    let q = line(prepared, Operation::Product, direction, phi, size);
+    let r = line(prepared, Operation::Product, direction, p1, q);
+    line(prepared, Operation::Difference, direction, q, r)
 }
 
 // Figure 3: s = x + subrealmin, S = s - x, rounded up.
@@ -55,35 +66,23 @@ fn third_figure(prepared: Prepared, x: Number) -> NumberAnswer
     requires { ⌜ Run prepared x ⌝ }
     ensures { λ r. ⌜ numberGiven r ≡ figure3 (prepared .format) x ⌝ }
 {
-    let next = add(prepared, Direction::Upward, x, subrealmin(prepared));
-    let NumberAnswer::Value(s) = next else {
-        return next;
-    };
-    subtract(prepared, Direction::Upward, s, x)
+    let direction = Direction::Upward;
+    let size = NumberAnswer::Value(x);
+    let least = subrealmin(prepared);
+    let s = line(prepared, Operation::Sum, direction, size, least);
+    line(prepared, Operation::Difference, direction, s, size)
 }
 
 // Figures 4 and 5, lines 3 and 4: p = x - subrealmin, S = x - p.
 fn gap(prepared: Prepared, x: Number) -> NumberAnswer
     requires { ⌜ Run prepared x ⌝ }
-    ensures { λ r. ⌜ numberGiven r ≡ figures.gap (prepared .format) x ⌝ }
+    ensures { λ r. ⌜ Answers (prepared .format) (figures.gap (prepared .format) x) r ⌝ }
 {
-    let preceding = subtract(prepared, Direction::TowardZero, x, subrealmin(prepared));
-    let NumberAnswer::Value(p) = preceding else {
-        return preceding;
-    };
-    subtract(prepared, Direction::TowardZero, x, p)
-}
-
-// Do two numbers have the same value?
-fn is_same(format: Format, a: Number, b: Number) -> bool
-    requires { ⌜ (admitted format ≡ true) × (member format a ≡ true) × (member format b ≡ true) ⌝ }
-    ensures { λ r. ⌜ r ≡ equalZ (value format a) (value format b) ⌝ }
-{
-    match compare_values(format, a, b) {
-        Ordering::Less => false,
-        Ordering::Equal => true,
-        Ordering::Greater => false,
-    }
+    let direction = Direction::TowardZero;
+    let size = NumberAnswer::Value(x);
+    let least = subrealmin(prepared);
+    let p = line(prepared, Operation::Difference, direction, size, least);
+    line(prepared, Operation::Difference, direction, size, p)
 }
 
 // Figure 4: S * base where x + S gives x, and S elsewhere.
@@ -91,59 +90,36 @@ fn fourth_figure(prepared: Prepared, x: Number) -> NumberAnswer
     requires { ⌜ Run prepared x ⌝ }
     ensures { λ r. ⌜ numberGiven r ≡ figure4 (prepared .format) x ⌝ }
 {
-    let below = gap(prepared, x);
-    let NumberAnswer::Value(s) = below else {
-        return below;
-    };
-    let raised = add(prepared, Direction::TowardZero, x, s);
+    let direction = Direction::TowardZero;
+    let size = NumberAnswer::Value(x);
+    let s = gap(prepared, x);
+    let raised = line(prepared, Operation::Sum, direction, size, s);
     let NumberAnswer::Value(next) = raised else {
         return raised;
     };
-    if is_same(prepared.format, next, x) {
-        return multiply(prepared, Direction::TowardZero, s, power(prepared, 1));
+    if same_value(prepared.format, next, x) {
+        let factor = power(prepared, 1);
+        return line(prepared, Operation::Product, direction, s, factor);
     }
-    below
+    s
 }
 
-// Figure 5, line 5: d = ((x + S) - x) - S.
-fn defect(prepared: Prepared, x: Number, s: Number) -> NumberAnswer
-    requires { ⌜ Operands prepared x s ⌝ }
-    ensures { λ r. ⌜ numberGiven r ≡ figures.defect (prepared .format) x s ⌝ }
-{
-    let raised = add(prepared, Direction::TowardZero, x, s);
-    let NumberAnswer::Value(next) = raised else {
-        return raised;
-    };
-    let lowered = subtract(prepared, Direction::TowardZero, next, x);
-    let NumberAnswer::Value(back) = lowered else {
-        return lowered;
-    };
-    subtract(prepared, Direction::TowardZero, back, s)
-}
-
-// Figure 5: S - (base - 1) * d.
+// Figure 5: d = ((x + S) - x) - S, S - (base - 1) * d.
 fn fifth_figure(prepared: Prepared, x: Number) -> NumberAnswer
     requires { ⌜ Run prepared x ⌝ }
     ensures { λ r. ⌜ numberGiven r ≡ figure5 (prepared .format) x ⌝ }
 {
-    let below = gap(prepared, x);
-    let NumberAnswer::Value(s) = below else {
-        return below;
-    };
-    let off = defect(prepared, x, s);
-    let NumberAnswer::Value(d) = off else {
-        return off;
-    };
+    let direction = Direction::TowardZero;
+    let size = NumberAnswer::Value(x);
+    let s = gap(prepared, x);
+    let raised = line(prepared, Operation::Sum, direction, size, s);
+    let back = line(prepared, Operation::Difference, direction, raised, size);
+    let d = line(prepared, Operation::Difference, direction, back, s);
     let base = power(prepared, 1);
-    let factor = subtract(prepared, Direction::TowardZero, base, power(prepared, 0));
-    let NumberAnswer::Value(b) = factor else {
-        return factor;
-    };
-    let correction = multiply(prepared, Direction::TowardZero, b, d);
-    let NumberAnswer::Value(c) = correction else {
-        return correction;
-    };
-    subtract(prepared, Direction::TowardZero, s, c)
+    let one = power(prepared, 0);
+    let b = line(prepared, Operation::Difference, direction, base, one);
+    let c = line(prepared, Operation::Product, direction, b, d);
+    line(prepared, Operation::Difference, direction, s, c)
 }
 
 pub fn run(figure: Figure, prepared: Prepared, x: Number) -> NumberAnswer

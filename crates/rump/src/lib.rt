@@ -11,3 +11,10 @@ pub enum Figure {
     Fourth,
     Fifth,
 }
+
+// What a line of a figure does with two numbers.
+pub enum Operation {
+    Sum,
+    Difference,
+    Product,
+}

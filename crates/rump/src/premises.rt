@@ -15,7 +15,7 @@ ghost use lib.Dec.{ltb};
 ghost use Rattle.format.specs.Formats.{admitted};
 ghost use Rattle.number.specs.Checks.{Usable, Operand};
 ghost use Rattle.number.specs.Numbers.{member, magnitude};
-ghost use Rattle.rump.specs.Premises.{premise, firstPremise, lastPremise, premiseOf};
+ghost use Rattle.rump.specs.Premises.{Run, premise, firstPremise, lastPremise, premiseOf};
 
 // Emin ≤ -p and p ≤ Emax.
 fn exponents_suffice(prepared: Prepared) -> bool
@@ -43,12 +43,9 @@ fn is_smaller(format: Format, x: Number, bound: Number) -> bool
 
 // Figure 1 takes x below base^(Emax - p + 1).
 fn first_premise(prepared: Prepared, x: Number) -> bool
-    requires { ⌜ Operand prepared x ⌝ }
+    requires { ⌜ Run prepared x ⌝ }
     ensures { λ r. ⌜ r ≡ firstPremise (prepared .format) x ⌝ }
 {
-    if !exponents_suffice(prepared) {
-        return false;
-    }
     let digits = prepared.scale.digits;
     let bound = power_number(prepared, prepared.highest + 1 - digits);
     is_smaller(prepared.format, x, bound)
@@ -56,12 +53,9 @@ fn first_premise(prepared: Prepared, x: Number) -> bool
 
 // Figures 3, 4 and 5 take x that is neither zero nor the greatest number.
 fn last_premise(prepared: Prepared, x: Number) -> bool
-    requires { ⌜ Operand prepared x ⌝ }
+    requires { ⌜ Run prepared x ⌝ }
     ensures { λ r. ⌜ r ≡ lastPremise (prepared .format) x ⌝ }
 {
-    if !exponents_suffice(prepared) {
-        return false;
-    }
     let bound = prepared.scale.bound;
     if x.significand == 0 {
         return false;
@@ -74,6 +68,9 @@ pub fn premise_holds(figure: Figure, prepared: Prepared, x: Number) -> bool
     requires { ⌜ Operand prepared x ⌝ }
     ensures { λ r. ⌜ r ≡ premiseOf figure (prepared .format) x ⌝ }
 {
+    if !exponents_suffice(prepared) {
+        return false;
+    }
     match figure {
         Figure::First => first_premise(prepared, x),
         Figure::Third => last_premise(prepared, x),

@@ -1,6 +1,7 @@
 -- The laws of the definitions in specs/, lowest first. A crate above cites a file as Rattle.theory.proofs.NAME.
 -- numbers, places and the wide format
 pub mod Prelude
+pub mod Words
 pub mod Tests
 pub mod Lists
 pub mod Powers

@@ -2,9 +2,7 @@
 -- between them: direction 0 takes the even one of n and n + 1, direction 1 the one away from zero.
 use Rattle.theory.proofs.Prelude.{ℕ, _≤_, _<_, _+_, _^_, _*_, _-_, _%_, _/_, Bool, _∙_, ap, _≡_, sym, ap₂, mul-le-mul-right, mul-pos, le-trans, le-antisymm, lt-of-mul-lt-mul-right, le-div-iff-mul-le, le-of-mul-le-mul-right, mul-div-cancel, div-mul-le-self, arith, eqb, ne-eqb, eq-eqb}
 use native.Mathlib.Nat.{lt-of-le-of-lt}
-use Rattle.theory.specs.Place.{Positional, place, step}
-use Rattle.theory.specs.Wide.{Wide}
-use Rattle.theory.specs.Neighbours.{lowerQ, upperQ}
+use Rattle.theory.proofs.Words.{Positional, place, step, Wide, lowerQ, upperQ}
 use Rattle.theory.specs.Round.{Direction, NearestEven, NearestAway, Half, location, chosen, takesUpper, round, Tie}
 use Rattle.theory.proofs.Multiples.{multiple-of, multiple-power, multiple-le, multiple-gap}
 use Rattle.theory.proofs.Place.{place-fits, place-mono, step-pos}

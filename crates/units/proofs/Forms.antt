@@ -1,9 +1,6 @@
 -- How the places and the neighbours of a number are written: a significand and a place, in canonical form.
 use Rattle.theory.proofs.Prelude.{ℕ, _≤_, _<_, _+_, _^_, _*_, _-_, suc, zero, ⊎-elim, inl, inr, _⊎_, _∙_, ap, _≡_, sym, refl, subst, mul-le-mul-right, mul-le-mul-left, pow-zero, pow-succ', le-of-mul-le-mul-left, add-one, arith}
-use Rattle.theory.specs.Place.{Positional}
-use Rattle.theory.specs.Wide.{Wide, Canonical}
-use Rattle.theory.specs.Units.{ufp, ulp}
-use Rattle.theory.specs.Neighbours.{lower, upper}
+use Rattle.theory.proofs.Words.{Positional, Wide, Canonical, lower, upper, ufp, ulp}
 use Rattle.theory.proofs.Powers.{pow-add, pow-pos, pow-pred, pow-half, pow-lt}
 use Rattle.theory.proofs.Multiples.{multiple-of}
 use Rattle.theory.proofs.Wide.{wide-pow}

@@ -1,22 +1,15 @@
 -- The predecessor is the greatest number of the format below x, the successor the least above; refusal 5 exactly where there is
 -- none. They undo each other, and the one is minus the other of minus x.
 use Rattle.theory.proofs.Prelude.{ℕ, _≤_, _<_, _+_, suc, true, false, Bool, not, ⊎-elim, inl, inr, _⊎_, _∙_, ap, _≡_, sym, refl, subst, le-of-suc-le-suc, lt-of-not-le, arith, leb, ℤ, natAbs, _<ℤ_, _≤ℤ_, leb-true, leb-false}
-use Rattle.theory.specs.Wide.{Wide}
-use Rattle.theory.specs.Signed.{WideZ, signed, isNegative, predecessor, successor}
+use Rattle.theory.proofs.Words.{Wide, signed, isNegative, WideZ, predecessor, successor}
 use Rattle.theory.specs.Faithful.{GreatestBelow, LeastAbove}
 use Rattle.theory.proofs.Tests.{unless-passed, unless-failed}
 use Rattle.theory.proofs.Integers.{above, below, size-parts, lt-parts, parts-lt, le-parts, parts-le, parts-eq, size-signed, own-sign, neg-above, neg-below}
 use Rattle.theory.proofs.Faithful.{predecessor-below, successor-above}
-use Rattle.format.specs.declared.Format.{Format}
-use Rattle.format.proofs.Formats.{Admitted, positional}
-use Rattle.format.proofs.Signed.{apart}
+use Rattle.number.proofs.Prelude.{Format, Given, gives, refused, apart, Admitted, positional, magnitude, value, greatest, number, delivered, Member, members, member-made, one-checked}
 use Rattle.number.specs.declared.Number.{Number}
-use Rattle.format.specs.Given.{Given, gives, refused}
-use Rattle.number.specs.Numbers.{magnitude, value, greatest, number, delivered}
-use Rattle.number.proofs.Membership.{Member, members, member-made}
 use Rattle.number.proofs.Values as values
 use Rattle.number.proofs.Negation.{signed-member, negated-value}
-use Rattle.number.proofs.CheckLaws.{one-checked}
 use Rattle.units.specs.Neighbours.{deliveredZ, predecessorOf, successorOf, GreatestNumberBelow, LeastNumberAbove}
 
 less : {v w : ℤ} → v <ℤ w → v ≤ℤ w

@@ -2,20 +2,14 @@
 -- greatest power of β not above |x| (ufp-le, ufp-greatest), ulp is β ^ e (ulp-canonical), uls divides x and is the greatest power
 -- that does (uls-multiple, uls-greatest).
 use Rattle.theory.proofs.Prelude.{ℕ, _≤_, _*_, suc, zero, false, _≡_, le-trans, zero-mul, arith, pos}
-use Rattle.theory.specs.Wide.{Wide}
-use Rattle.theory.specs.Units.{ufp, ulp, uls, zeros}
+use Rattle.theory.proofs.Words.{Wide, ufp, ulp, uls, zeros}
 use Rattle.theory.proofs.Wide.{wide-zero, wide-pow}
 use Rattle.theory.proofs.Units.{ufp-le, ufp-wide, ulp-le, ulp-wide}
 use Rattle.theory.proofs.LeastPlace.{uls-multiple}
-use Rattle.format.specs.declared.Format.{Format}
-use Rattle.format.proofs.Formats.{Admitted, positional}
+use Rattle.number.proofs.Prelude.{Format, Given, gives, Admitted, positional, magnitude, value, number, Member, member-made, one-checked}
 use Rattle.number.specs.declared.Number.{Number}
-use Rattle.format.specs.Given.{Given, gives, refused}
-use Rattle.number.specs.Numbers.{magnitude, value, number}
-use Rattle.number.proofs.Membership.{Member, member-made}
 use Rattle.number.proofs.Values.{member-greatest, number-member, number-value}
 use Rattle.units.specs.Places.{firstPlace, lastPlace, leastPlace, GivesValue}
-use Rattle.number.proofs.CheckLaws.{one-checked}
 
 module _ {f : Format} {x : Number} (a : Admitted f) (i : Member f x) where
   place-number : {answer : Given Number} (n : ℕ) → answer ≡ gives (number f false n) → Wide (f .base) (f .digits) n → n ≤ magnitude f x → GivesValue f answer n

@@ -1,20 +1,13 @@
--- The places and neighbours of a number of the format, as the code writes them.
-use Rattle.theory.proofs.Prelude.{ℕ, _≤_, _<_, _+_, _^_, _*_, _-_, suc, zero, true, false, Bool, not, _&&_, _⊎_, _∙_, ap, _≡_, sym, refl, ap₂, zero-mul, lt-of-not-le, arith, eqb, ℤ, pos}
-use Rattle.theory.specs.Wide.{Canonical}
-use Rattle.theory.specs.Signed.{signed}
-use Rattle.theory.specs.Units.{ufp, ulp, uls, zeros}
-use Rattle.theory.specs.Neighbours.{lower, upper}
+-- The places of a number of the format, as the code writes them.
+use Rattle.theory.proofs.Prelude.{ℕ, _≤_, _<_, _+_, _^_, _*_, _-_, suc, zero, true, false, Bool, not, _&&_, _∙_, ap, _≡_, sym, refl, ap₂, zero-mul, lt-of-not-le, arith, eqb, ℤ, pos}
+use Rattle.theory.proofs.Words.{Canonical, ufp, ulp, uls, zeros, signed}
 use Rattle.theory.proofs.Powers.{pow-mono}
 use Rattle.theory.proofs.Units.{ufp-shift, ulp-canonical}
 use Rattle.theory.proofs.LeastPlace.{uls-shift, zeros-found}
-use Rattle.format.specs.declared.Format.{Format}
-use Rattle.format.specs.Formats.{highestPlace}
-use Rattle.format.proofs.Formats.{Admitted, positional}
+use Rattle.number.proofs.Prelude.{Format, highestPlace, Admitted, positional, placeOf, magnitude, number, Member}
 use Rattle.number.specs.declared.Number.{Number}
-use Rattle.number.specs.Numbers.{placeOf, magnitude, number}
-use Rattle.number.proofs.Membership.{Member}
 use Rattle.number.proofs.Values.{place-back, number-same, number-canonical, number-of, own-sign, member-canonical, member-highest}
-use Rattle.units.proofs.Forms.{first-canonical, next-size, carry-size, before-size, below-size}
+use Rattle.units.proofs.Forms.{first-canonical}
 
 zero-signed : (s : Bool) → signed s 0 ≡ signed false 0
 zero-signed true = refl
@@ -64,24 +57,3 @@ module _ {f : Format} {x : Number} (a : Admitted f) (i : Member f x) where
 
     pub least-room : placeOf f x + zeros (f .base) (x .significand) < f .digits + highestPlace f
     least-room = omega (arith, member-highest a i, zeros-below (a .base-low) some (i .significand-high))
-
-  -- the next greater magnitude, at the same place or past the last significand
-  pub next-written : suc (x .significand) * f .base ^ placeOf f x ≡ upper (f .base) (f .digits) (suc (magnitude f x))
-  unfolding magnitude
-  next-written = sym (next-size (positional a) own)
-
-  pub carry-written : suc (x .significand) ≡ f .base ^ f .digits
-      → f .base ^ (f .digits - 1) * f .base ^ (placeOf f x + 1) ≡ upper (f .base) (f .digits) (suc (magnitude f x))
-  unfolding magnitude
-  carry-written e = carry-size (positional a) own e ∙ sym (next-size (positional a) own)
-
-  -- the next smaller one, at the same place or below a power of the base
-  pub before-written : 1 ≤ x .significand → (placeOf f x ≡ 0) ⊎ (f .base ^ (f .digits - 1) < x .significand)
-      → (x .significand - 1) * f .base ^ placeOf f x ≡ lower (f .base) (f .digits) (magnitude f x - 1)
-  unfolding magnitude
-  before-written some low = sym (before-size (positional a) own some low)
-
-  pub below-written : x .significand ≡ f .base ^ (f .digits - 1) → 1 ≤ placeOf f x
-      → (f .base ^ f .digits - 1) * f .base ^ (placeOf f x - 1) ≡ lower (f .base) (f .digits) (magnitude f x - 1)
-  unfolding magnitude
-  below-written e h = sym (below-size (positional a) own e h)

@@ -7,7 +7,7 @@ use lib.Signed.{_<ℤ_, _≤ℤ_}
 use Rattle.theory.specs.Signed.{isNegative, predecessor, successor}
 use Rattle.format.specs.declared.Format.{Format}
 use Rattle.number.specs.declared.Number.{Number}
-use Rattle.format.specs.Given.{Given, gives, refused}
+use Rattle.format.specs.Given.{Given}
 use Rattle.number.specs.Numbers.{member, value, delivered}
 use Rattle.number.specs.Checks.{checked}
 

@@ -7,7 +7,7 @@ use lib.IntN.{pos}
 use Rattle.theory.specs.Units.{ufp, ulp, uls}
 use Rattle.format.specs.declared.Format.{Format}
 use Rattle.number.specs.declared.Number.{Number}
-use Rattle.format.specs.Given.{Given, gives, refused}
+use Rattle.format.specs.Given.{Given, gives}
 use Rattle.number.specs.Numbers.{member, magnitude, value, number}
 use Rattle.number.specs.Checks.{checked}
 use Rattle.units.specs.declared.places.Place.{Place}

@@ -1,7 +1,6 @@
 -- `fast_two_sum::check::is_faithful_difference` meets its contract.
 use Rattle.theory.proofs.Prelude.{_∙_, ap, ℤ, _+ℤ_, needs}
-use Rattle.number.specs.Numbers.{value}
-use Rattle.number.proofs.Membership.{known}
+use Rattle.number.proofs.Prelude.{value, known}
 use Rattle.arithmetic.proofs.Prepared.{turned-member, turned-value}
 use Rattle.fast_two_sum.specs.Checks.{isFaithful}
 use Rattle.fast_two_sum.proofs.check.is_faithful_difference.Statement.{statement}

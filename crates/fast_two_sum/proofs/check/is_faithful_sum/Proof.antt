@@ -1,7 +1,6 @@
 -- `fast_two_sum::check::is_faithful_sum` meets its contract.
 use Rattle.theory.proofs.Prelude.{_∙_, sym, needs}
-use Rattle.format.proofs.Formats.{Admitted}
-use Rattle.number.proofs.Membership.{Member, members, known}
+use Rattle.number.proofs.Prelude.{Admitted, Member, members, known}
 use Rattle.arithmetic.proofs.Results.{sum-member}
 use Rattle.fast_two_sum.proofs.Faithfulness.{down-decides, up-decides}
 use Rattle.fast_two_sum.proofs.check.is_faithful_sum.Statement.{statement}

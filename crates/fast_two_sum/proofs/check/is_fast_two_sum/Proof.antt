@@ -1,9 +1,7 @@
 -- `fast_two_sum::check::is_fast_two_sum` meets its contract.
 use Rattle.theory.proofs.Prelude.{Bool, [], _∷_, _∙_, ap, _≡_, sym, needs}
-use Rattle.format.specs.declared.Format.{Format}
+use Rattle.number.proofs.Prelude.{Format, gives, entered}
 use Rattle.format.specs.declared.Preparation.the-variants.{Ready}
-use Rattle.format.specs.Given.{gives}
-use Rattle.number.specs.Checks.{entered}
 use Rattle.number.proofs.CheckLaws.{Passed, passed, later-numbers, two-members, operand, operands, goes-on, ends}
 use Rattle.fast_two_sum.specs.Checks.{isTriple, checkedTriple}
 use Rattle.fast_two_sum.proofs.Order.{order-answered}
@@ -42,9 +40,6 @@ decided c e =
     ∙ order-answered _ _ _ _ (o .check-order .ensures) (v .enum-told .given .1)
     ∙ goes-on _ _ _ _ (ready k)
 
-returns : tie.Need-returns
-returns c = decided (c .before) (c .if1 .taken)
-
 returns-2 : tie.Need-returns-2
 unfolding checkedTriple
 returns-2 c = ends _ _ _ _ (sym (c .before .before .before .enter-check .ensures) ∙ c .before .why .given .1)
@@ -56,12 +51,9 @@ returns-3 c =
     let o = w .before .before in
     order-answered _ _ _ _ (o .check-order .ensures) (w .why2 .given .1) ∙ goes-on _ _ _ _ (ready (o .before .before))
 
-returns-4 : tie.Need-returns-4
-returns-4 c = decided (c .before) (c .if1 .left)
-
 pub is-fast-two-sum-spec : {M : Type 1} → statement M
 is-fast-two-sum-spec =
     tie.close
     (tie.spec
     (λ c κs. search needs) (λ c. search needs) (λ c. search needs) check-order-requires (λ c. search needs) (λ c. search needs) is-triple-requires
-    returns returns-2 returns-3 returns-4)
+    (λ c. decided (c .before) (c .if1 .taken)) returns-2 returns-3 (λ c. decided (c .before) (c .if1 .left)))

@@ -1,7 +1,7 @@
 -- `fast_two_sum::check::is_result` meets its contract.
 use Rattle.theory.proofs.Prelude.{_∙_, ap, sym, needs}
+use Rattle.number.proofs.Prelude.{numberGiven}
 use Rattle.number.specs.declared.NumberAnswer.{NumberAnswer}
-use Rattle.number.specs.Answers.{numberGiven}
 use Rattle.fast_two_sum.specs.Checks.{isResult}
 use Rattle.fast_two_sum.proofs.check.is_result.Statement.{statement}
 use Rattle.fast_two_sum.proofs.check.is_result.Tie as tie

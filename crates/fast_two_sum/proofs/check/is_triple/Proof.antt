@@ -10,9 +10,6 @@ returns : tie.Need-returns
 unfolding isTriple
 returns c = refuted (λ h. never (sym (and-left _ _ h) ∙ denied (c .before .is-faithful-sum .ensures) (c .if1 .taken)))
 
-is-faithful-difference-requires : tie.Need-is-faithful-difference-requires
-is-faithful-difference-requires c κs = let p = c .before .before .pre in search needs
-
 returns-2 : tie.Need-returns-2
 unfolding isTriple
 returns-2 c = refuted (λ h. never (sym (and-left _ _ (and-right _ _ h)) ∙ denied (c .before .is-faithful-difference .ensures) (c .if2 .taken)))
@@ -33,4 +30,4 @@ pub is-triple-spec : {M : Type 1} → statement M
 is-triple-spec =
     tie.close
     (tie.spec
-    (λ c κs. search needs) returns is-faithful-difference-requires returns-2 is-faithful-difference-requires-2 returns-3)
+    (λ c κs. search needs) returns (λ c κs. let p = c .before .before .pre in search needs) returns-2 is-faithful-difference-requires-2 returns-3)

@@ -8,9 +8,6 @@ use Rattle.fast_two_sum.proofs.Order.{binary-made, is-binary, order-bin
 use Rattle.fast_two_sum.proofs.entry.check_order.Statement.{statement}
 use Rattle.fast_two_sum.proofs.entry.check_order.Tie as tie
 
-returns : tie.Need-returns
-returns c = sym (order-binary _ _ _ _ (sym (refuted (λ h. c .if1 .taken (is-binary _ h .0)))))
-
 returns-2 : tie.Need-returns-2
 returns-2 c = sym (order-binary _ _ _ _ (sym (refuted (λ h. omega (arith, c .if2 .taken, is-binary (c .before .before .before .before .args .format) h .1)))))
 
@@ -39,4 +36,5 @@ pub check-order-spec : {M : Type 1} → statement M
 check-order-spec =
     tie.close
     (tie.spec
-    returns returns-2 (λ c κs. search needs) (λ c. search needs) (λ c. search needs) (λ c. search needs) returns-3 returns-4 returns-5)
+    (λ c. sym (order-binary _ _ _ _ (sym (refuted (λ h. c .if1 .taken (is-binary _ h .0)))))) returns-2 (λ c κs. search needs) (λ c. search needs)
+    (λ c. search needs) (λ c. search needs) returns-3 returns-4 returns-5)

@@ -1,10 +1,9 @@
 -- `fast_two_sum::sum::fast_two_sum` meets its contract.
 use Rattle.theory.proofs.Prelude.{[], _∷_, _∙_, _≡_, sym, needs}
 use Rattle.theory.specs.declared.Direction.{Direction}
-use Rattle.format.specs.declared.Format.{Format}
-use Rattle.format.specs.declared.Preparation.the-variants.{Ready}
+use Rattle.number.proofs.Prelude.{Format, entered}
 use Rattle.number.specs.declared.Number.{Number}
-use Rattle.number.specs.Checks.{entered}
+use Rattle.format.specs.declared.Preparation.the-variants.{Ready}
 use Rattle.number.proofs.CheckLaws.{Passed, passed, first-direction, later-directions, two-members, operands, goes-on, ends}
 use Rattle.fast_two_sum.specs.Calls.{threeSteps, fastTwoSum}
 use Rattle.fast_two_sum.proofs.Order.{order-answered}
@@ -25,17 +24,8 @@ accepted c = passed _ _ _ (ready c)
 check-order-requires : tie.Need-check-order-requires
 check-order-requires c κs = let p = accepted (c .before) in let m = two-members p in (p .format, m .0, m .1)
 
-direction-of-requires : tie.Need-direction-of-requires
-direction-of-requires c κs = first-direction (accepted (c .before .before .before .before))
-
-direction-of-requires-2 : tie.Need-direction-of-requires-2
-direction-of-requires-2 c κs = first-direction (later-directions (accepted (c .before .before .before .before .before)))
-
 direction-of-requires-3 : tie.Need-direction-of-requires-3
 direction-of-requires-3 c κs = first-direction (later-directions (later-directions (accepted (c .before .before .before .before .before .before))))
-
-three-steps-requires : tie.Need-three-steps-requires
-three-steps-requires c κs = operands (accepted (c .before .before .before .before .before .before .before))
 
 returns : tie.Need-returns
 unfolding fastTwoSum
@@ -71,5 +61,7 @@ pub fast-two-sum-spec : {M : Type 1} → statement M
 fast-two-sum-spec =
     tie.close
     (tie.spec
-    (λ c κs. search needs) (λ c. search needs) (λ c. search needs) check-order-requires (λ c. search needs) (λ c. search needs) direction-of-requires
-    direction-of-requires-2 direction-of-requires-3 three-steps-requires returns returns-2 returns-3)
+    (λ c κs. search needs) (λ c. search needs) (λ c. search needs) check-order-requires (λ c. search needs) (λ c. search needs)
+    (λ c κs. first-direction (accepted (c .before .before .before .before)))
+    (λ c κs. first-direction (later-directions (accepted (c .before .before .before .before .before)))) direction-of-requires-3
+    (λ c κs. operands (accepted (c .before .before .before .before .before .before .before))) returns returns-2 returns-3)

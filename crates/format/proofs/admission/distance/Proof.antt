@@ -11,16 +11,13 @@ range c = distances (exponents _ _ (c .pre))
 fit : (c : tie.Start) → SFits w32 (c .args .to -ℤ c .args .from)
 fit c = let d = range c in fits (c .args .to -ℤ c .args .from) (omega arith) (omega arith)
 
-sub-result : tie.Need-sub-result
-sub-result c = rw (back (c .fits .to), back (c .fits .from)) (fit c)
-
 cast-result : tie.Need-cast-result
 cast-result c =
     rw (back (c .fits .to), back (c .fits .from), back (fit c))
     (not-negative (c .args .to -ℤ c .args .from) (range c .forward), fits-natAbs tt (fit c))
 
-returns : tie.Need-returns
-returns c = rw (back (c .fits .to), back (c .fits .from), back (fit c))
-
 pub distance-spec : {M : Type 1} → statement M
-distance-spec = tie.close (tie.spec sub-result cast-result returns)
+distance-spec =
+    tie.close
+    (tie.spec
+    (λ c. rw (back (c .fits .to), back (c .fits .from)) (fit c)) cast-result (λ c. rw (back (c .fits .to), back (c .fits .from), back (fit c))))

@@ -21,18 +21,6 @@ last : (f : Format) → 2 ≤ f .base → f .base ≤ 256 → 1 ≤ f .digits �
 unfolding admitted _and_
 last f b₁ b₂ d₁ d₂ p = rw (le-leb _ _ b₁, le-leb _ _ b₂, le-leb _ _ d₁, le-leb _ _ d₂, p, _and_)
 
-returns : tie.Need-returns
-returns c = refuted (λ h. let a = admits _ h in omega arith)
-
-returns-2 : tie.Need-returns-2
-returns-2 c = refuted (λ h. let a = admits _ h in omega arith)
-
-returns-3 : tie.Need-returns-3
-returns-3 c = refuted (λ h. let a = admits _ h in omega arith)
-
-returns-4 : tie.Need-returns-4
-returns-4 c = refuted (λ h. let a = admits _ h in omega arith)
-
 returns-5 : tie.Need-returns-5
 returns-5 c =
     refuted (λ h. never (sym (le-leb _ _ (admits _ h .power-high)) ∙ denied (c .before .fits2 .ensures) (c .if5 .taken)))
@@ -52,4 +40,6 @@ pub is-admitted-spec : {M : Type 1} → statement M
 is-admitted-spec =
     tie.close
     (tie.spec
-    returns returns-2 returns-3 returns-4 (λ c κs. search needs) returns-5 (λ c κs. search needs) returns-6)
+    (λ c. refuted (λ h. let a = admits _ h in omega arith)) (λ c. refuted (λ h. let a = admits _ h in omega arith))
+    (λ c. refuted (λ h. let a = admits _ h in omega arith)) (λ c. refuted (λ h. let a = admits _ h in omega arith)) (λ c κs. search needs)
+    returns-5 (λ c κs. search needs) returns-6)

@@ -27,9 +27,6 @@ returns : tie.Need-returns
 unfolding preparation
 returns c = sym (unless-failed _ _ (denied (c .before .is-admitted .ensures) (c .if1 .taken)))
 
-sub-power : tie.Need-sub-power
-sub-power c = passed c .digits-low
-
 power-requires : tie.Need-power-requires
 power-requires c κs = let a = passed c in (a .base-low, a .base-high, le-trans (least-bound a) (a .power-high))
 
@@ -55,4 +52,5 @@ returns-2 c =
 pub prepare-spec : {M : Type 1} → statement M
 prepare-spec =
     tie.close
-    (tie.spec (λ c κs. search needs) returns sub-power power-requires mul-t9 distance-requires returns-2)
+    (tie.spec
+    (λ c κs. search needs) returns (λ c. passed c .digits-low) power-requires mul-t9 distance-requires returns-2)

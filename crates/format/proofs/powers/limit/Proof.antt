@@ -13,30 +13,6 @@ next l e = omega arith
 past : (c : tie.At-match-rest) → 4 ≤ c .before .args .k → 12 ≤ c .before .args .k
 past c h = let r = c .match .rest in next (next (next (next (next (next (next (next h (r .0 .0 .0 .0 .0 .0 .0 .1)) (r .0 .0 .0 .0 .0 .0 .1)) (r .0 .0 .0 .0 .0 .1)) (r .0 .0 .0 .0 .1)) (r .0 .0 .0 .1)) (r .0 .0 .1)) (r .0 .1)) (r .1)
 
-returns : tie.Need-returns
-returns c = sym (ap limit (c .match .keys1))
-
-returns-2 : tie.Need-returns-2
-returns-2 c = sym (ap limit (c .match .keys2))
-
-returns-3 : tie.Need-returns-3
-returns-3 c = sym (ap limit (c .match .keys3))
-
-returns-4 : tie.Need-returns-4
-returns-4 c = sym (ap limit (c .match .keys4))
-
-returns-5 : tie.Need-returns-5
-returns-5 c = sym (ap limit (c .match .keys5))
-
-returns-6 : tie.Need-returns-6
-returns-6 c = sym (ap limit (c .match .keys6))
-
-returns-7 : tie.Need-returns-7
-returns-7 c = sym (ap limit (c .match .keys7))
-
-returns-8 : tie.Need-returns-8
-returns-8 c = sym (ap limit (c .match .keys8))
-
 returns-9 : tie.Need-returns-9
 unfolding below _and_
 returns-9 c = limit-from 256 0 4 refl (c .before .before .args .k) (omega arith) (omega arith)
@@ -61,4 +37,6 @@ pub limit-spec : {M : Type 1} → statement M
 limit-spec =
     tie.close
     (tie.spec
-    returns returns-2 returns-3 returns-4 returns-5 returns-6 returns-7 returns-8 returns-9 returns-10 returns-11 returns-12 returns-13)
+    (λ c. sym (ap limit (c .match .keys1))) (λ c. sym (ap limit (c .match .keys2))) (λ c. sym (ap limit (c .match .keys3)))
+    (λ c. sym (ap limit (c .match .keys4))) (λ c. sym (ap limit (c .match .keys5))) (λ c. sym (ap limit (c .match .keys6)))
+    (λ c. sym (ap limit (c .match .keys7))) (λ c. sym (ap limit (c .match .keys8))) returns-9 returns-10 returns-11 returns-12 returns-13)

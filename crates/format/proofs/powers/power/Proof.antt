@@ -8,11 +8,8 @@ use Rattle.format.proofs.powers.power.Tie as tie
 exponent : (c : tie.Start) → c .args .k < 32
 exponent c = exponent-most (c .args .base) (c .args .k) (c .pre .0) (c .pre .2)
 
-shl-result : tie.Need-shl-result
-shl-result c = exponent (c .before)
-
 returns : tie.Need-returns
 returns c = one-shl (c .before .args .k) (exponent (c .before)) ∙ ap (λ (b : ℕ). b ^ c .before .args .k) (sym (c .if1 .taken))
 
 pub power-spec : {M : Type 1} → statement M
-power-spec = tie.close (tie.spec shl-result returns (λ c κs. search needs) (λ c. search needs))
+power-spec = tie.close (tie.spec (λ c. exponent (c .before)) returns (λ c κs. search needs) (λ c. search needs))

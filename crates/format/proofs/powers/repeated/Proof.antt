@@ -10,9 +10,6 @@ Inv-loop base k result₀ square₀ rest₀ result square rest = Way (base ^ k) 
 abbrev μ-loop : tie.MeasureT-loop
 μ-loop base k result₀ square₀ rest₀ result square rest = rest
 
-loop-holds : tie.Need-loop-holds Inv-loop μ-loop
-loop-holds c = way-first (c .args .base) (c .args .k) (c .pre .0)
-
 mul-result : tie.Need-mul-result Inv-loop μ-loop
 mul-result c =
     let b = c .before .before .before in
@@ -25,9 +22,6 @@ mul-square : tie.Need-mul-square Inv-loop μ-loop
 mul-square c =
     let b = c .before .before .before in
     omega (arith, square-fits (b .loop .rest) (b .loop .inv) (c .before .before .loop-test .taken) (b .before .pre .2))
-
-loop-less : tie.Need-loop-less Inv-loop μ-loop
-loop-less c = omega (arith, c .before .before .loop-test .taken)
 
 -- one step of the way, with the factor that was chosen
 loop-again : tie.Need-loop-again Inv-loop μ-loop
@@ -44,12 +38,9 @@ loop-again c =
 ended : (c : tie.After-loop Inv-loop μ-loop) → c .before .loop .result ≡ c .before .before .args .base ^ c .before .before .args .k
 ended c = let l = c .before .loop in way-end (subst (λ (n : ℕ). Way (c .before .before .args .base ^ c .before .before .args .k) (l .result) (l .square) n) (c .loop-test .left) (l .inv))
 
-cast-result : tie.Need-cast-result Inv-loop μ-loop
-cast-result c = omega (arith, ended c, c .before .before .pre .2)
-
-returns : tie.Need-returns Inv-loop μ-loop
-returns c = ended c
-
 pub repeated-spec : {M : Type 1} → statement M
 repeated-spec =
-    tie.close (tie.spec Inv-loop μ-loop loop-holds mul-result mul-square loop-less loop-again cast-result returns)
+    tie.close
+    (tie.spec
+    Inv-loop μ-loop (λ c. way-first (c .args .base) (c .args .k) (c .pre .0)) mul-result mul-square
+    (λ c. omega (arith, c .before .before .loop-test .taken)) loop-again (λ c. omega (arith, ended c, c .before .before .pre .2)) (λ c. ended c))

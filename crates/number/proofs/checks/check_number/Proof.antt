@@ -4,11 +4,10 @@ use Rattle.number.proofs.CheckLaws.{goes-on, ends}
 use Rattle.number.proofs.checks.check_number.Statement.{statement}
 use Rattle.number.proofs.checks.check_number.Tie as tie
 
-returns : tie.Need-returns
-returns c = ends _ _ _ _ (sym (c .before .before .before .enter .ensures) ∙ c .before .why .given .1)
-
-returns-2 : tie.Need-returns-2
-returns-2 c = goes-on _ _ _ _ (sym (c .before .before .enter .ensures) ∙ c .enum-told .given .1)
-
 pub check-number-spec : {M : Type 1} → statement M
-check-number-spec = tie.close (tie.spec (λ c κs. search needs) (λ c. search needs) (λ c. search needs) returns returns-2)
+check-number-spec =
+    tie.close
+    (tie.spec
+    (λ c κs. search needs) (λ c. search needs) (λ c. search needs)
+    (λ c. ends _ _ _ _ (sym (c .before .before .before .enter .ensures) ∙ c .before .why .given .1))
+    (λ c. goes-on _ _ _ _ (sym (c .before .before .enter .ensures) ∙ c .enum-told .given .1)))

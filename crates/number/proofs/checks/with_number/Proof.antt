@@ -8,13 +8,11 @@ use Rattle.number.proofs.checks.with_number.Tie as tie
 returns : tie.Need-returns
 returns c = further-fails _ _ (c .before .before .before .before3 .given .1) (denied (c .before .is-member .ensures) (c .if1 .taken))
 
-returns-2 : tie.Need-returns-2
-returns-2 c = further-stands _ _ (c .before .before2 .given .1)
-
 returns-3 : tie.Need-returns-3
 returns-3 c = further-passes _ _ (c .before .before .before .before3 .given .1) (granted (c .before .is-member .ensures) (c .if1 .left))
 
 pub with-number-spec : {M : Type 1} → statement M
 with-number-spec =
     tie.close
-    (tie.spec (λ c. search needs) (λ c. search needs) (λ c κs. search needs) returns returns-2 returns-3)
+    (tie.spec
+    (λ c. search needs) (λ c. search needs) (λ c κs. search needs) returns (λ c. further-stands _ _ (c .before .before2 .given .1)) returns-3)

@@ -1,8 +1,7 @@
 -- `number::delivery::number_at` meets its contract.
 use Rattle.theory.proofs.Prelude.{_∙_, ap, sym, arith, ℤ, pos, _+ℤ_, w32, SFits, needs}
-use Rattle.format.proofs.Signed.{back}
+use Rattle.number.proofs.Prelude.{back, known}
 use Rattle.number.specs.Signs.{withSign}
-use Rattle.number.proofs.Membership.{known}
 use Rattle.number.proofs.Values.{emin-admitted, highest-most, number-canonical}
 use Rattle.number.proofs.delivery.number_at.Statement.{statement}
 use Rattle.number.proofs.delivery.number_at.Tie as tie

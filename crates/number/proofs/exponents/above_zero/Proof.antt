@@ -20,11 +20,11 @@ taken c = lt-taken (pos 0) (c .before .args .e) (sfits-lit tt) (c .before .fits 
 cast-result : tie.Need-cast-result
 cast-result c = rw (back (c .before .fits .e)) (not-negative (c .before .args .e) (positive (c .before .args .e) (taken c) .0), fits-natAbs tt (c .before .fits .e))
 
-returns : tie.Need-returns
-returns c = rw (back (c .before .fits .e)) (positive (c .before .args .e) (taken c) .1)
-
 returns-2 : tie.Need-returns-2
 returns-2 c = none (c .before .args .e) (lt-left (pos 0) (c .before .args .e) (sfits-lit tt) (c .before .fits .e) (c .if1 .left))
 
 pub above-zero-spec : {M : Type 1} → statement M
-above-zero-spec = tie.close (tie.spec cast-result returns returns-2)
+above-zero-spec =
+    tie.close
+    (tie.spec
+    cast-result (λ c. rw (back (c .before .fits .e)) (positive (c .before .args .e) (taken c) .1)) returns-2)

@@ -24,9 +24,6 @@ fit c =
     let n = negation (c .before .args .e) (taken c) in
     fits (pos 0 -ℤ c .before .args .e) (omega (arith, n .1, apart (c .before .args .e))) (omega (arith, n .0))
 
-sub-result : tie.Need-sub-result
-sub-result c = rw (back (c .before .fits .e)) (fit c)
-
 cast-result : tie.Need-cast-result
 cast-result c = rw (back (c .before .fits .e), back (fit c)) (not-negative (pos 0 -ℤ c .before .args .e) (negation (c .before .args .e) (taken c) .0), fits-natAbs tt (fit c))
 
@@ -41,4 +38,4 @@ returns-2 c =
     omega (arith, is-below (c .before .args .e), apart (c .before .args .e))
 
 pub below-zero-spec : {M : Type 1} → statement M
-below-zero-spec = tie.close (tie.spec sub-result cast-result returns returns-2)
+below-zero-spec = tie.close (tie.spec (λ c. rw (back (c .before .fits .e)) (fit c)) cast-result returns returns-2)

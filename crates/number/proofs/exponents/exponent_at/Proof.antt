@@ -17,11 +17,8 @@ fit c =
     let s = sum-parts (c .args .emin) (pos (c .args .place)) in
     fits z (omega (arith, c .pre .1, apart z, apart (c .args .emin))) (omega (arith, c .pre .1, apart z, apart (c .args .emin)))
 
-add-result : tie.Need-add-result
-add-result c = rw (back (c .fits .emin), small c) (fit c)
-
-returns : tie.Need-returns
-returns c = rw (back (c .fits .emin), small c) (back (fit c))
-
 pub exponent-at-spec : {M : Type 1} → statement M
-exponent-at-spec = tie.close (tie.spec (λ c. search needs) add-result returns)
+exponent-at-spec =
+    tie.close
+    (tie.spec
+    (λ c. search needs) (λ c. rw (back (c .fits .emin), small c) (fit c)) (λ c. rw (back (c .fits .emin), small c) (back (fit c))))

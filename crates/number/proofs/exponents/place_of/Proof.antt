@@ -1,7 +1,6 @@
 -- `number::exponents::place_of` meets its contract.
 use Rattle.theory.proofs.Prelude.{_∙_, w32, SFits, needs}
-use Rattle.format.proofs.Signed.{back}
-use Rattle.number.proofs.Membership.{members, known}
+use Rattle.number.proofs.Prelude.{back, members, known}
 use Rattle.number.proofs.Values.{member-exponents}
 use Rattle.number.proofs.exponents.place_of.Statement.{statement}
 use Rattle.number.proofs.exponents.place_of.Tie as tie

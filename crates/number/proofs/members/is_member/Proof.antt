@@ -1,11 +1,9 @@
 -- `number::members::is_member` meets its contract: the tests are those of the definition, in its order.
-use Rattle.theory.proofs.Prelude.{ℕ, true, false, Bool, cond, not, _&&_, _∙_, ap, _≡_, sym, refl, eqb, leb, ltb, ℤ, leZ, w32, SFits, toZ, ofZ, needs, ne-eqb, eq-eqb}
+use Rattle.theory.proofs.Prelude.{true, false, Bool, cond, not, _&&_, _∙_, ap, _≡_, sym, eqb, leb, ltb, ℤ, leZ, w32, SFits, toZ, ofZ, needs, ne-eqb, eq-eqb}
 use Rattle.theory.specs.Tests.{_and_, _or_}
 use Rattle.theory.proofs.Tests.{never, or-left, refuted, and-left}
-use Rattle.format.proofs.Signed.{back}
-use Rattle.number.specs.Numbers.{equalZ}
+use Rattle.number.proofs.Prelude.{back, equalZ, equal-true, equal-made}
 use Rattle.number.specs.Checks.{memberOf}
-use Rattle.number.proofs.Membership.{equal-true, equal-made}
 use Rattle.number.proofs.members.is_member.Statement.{statement}
 use Rattle.number.proofs.members.is_member.Tie as tie
 

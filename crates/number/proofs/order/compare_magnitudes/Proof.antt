@@ -1,8 +1,7 @@
 -- `number::order::compare_magnitudes` meets its contract.
 use Rattle.theory.proofs.Prelude.{arith, w32, SFits, needs}
 use Rattle.format.proofs.Signed.{Upto, lt-taken, lt-left}
-use Rattle.format.proofs.Formats.{Admitted, admits}
-use Rattle.number.proofs.Membership.{Member, members}
+use Rattle.number.proofs.Prelude.{Admitted, admits, Member, members}
 use Rattle.number.proofs.Comparison.{lower-exponent, less-significand, same-significand, is-less, is-greater, is-equal}
 use Rattle.number.proofs.order.compare_magnitudes.Statement.{statement}
 use Rattle.number.proofs.order.compare_magnitudes.Tie as tie

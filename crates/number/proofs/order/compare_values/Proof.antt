@@ -1,12 +1,9 @@
 -- `number::order::compare_values` meets its contract.
 use Rattle.theory.proofs.Prelude.{Bool, _∙_, _≡_, needs}
 use Rattle.theory.specs.Signed.{signed}
-use Rattle.format.specs.declared.Format.{Format}
-use Rattle.format.proofs.Formats.{admits}
+use Rattle.number.proofs.Prelude.{Format, admits, magnitude, value, members}
 use Rattle.number.specs.declared.Number.{Number}
-use Rattle.number.specs.Numbers.{magnitude, value}
 use Rattle.number.specs.Order.{orderZ}
-use Rattle.number.proofs.Membership.{members}
 use Rattle.number.proofs.Comparison.{both-negative, both-positive, negative-less, positive-greater, negative-size}
 use Rattle.number.proofs.order.compare_values.Statement.{statement}
 use Rattle.number.proofs.order.compare_values.Tie as tie

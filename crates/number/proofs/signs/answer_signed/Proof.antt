@@ -1,15 +1,9 @@
 -- `number::signs::answer_signed` meets its contract.
 use Rattle.theory.proofs.Prelude.{_∙_, ap, sym, needs}
-use Rattle.format.specs.Given.{gives}
-use Rattle.format.proofs.Formats.{admits}
-use Rattle.number.proofs.Membership.{members}
-use Rattle.number.proofs.Values.{number-of}
+use Rattle.number.proofs.Prelude.{gives, admits, members, number-of}
 use Rattle.number.proofs.CheckLaws.{passed, one-member, goes-on, ends}
 use Rattle.number.proofs.signs.answer_signed.Statement.{statement}
 use Rattle.number.proofs.signs.answer_signed.Tie as tie
-
-returns : tie.Need-returns
-returns c = ends _ _ _ _ (sym (c .before .before .before .enter .ensures) ∙ c .before .why .given .1)
 
 returns-2 : tie.Need-returns-2
 returns-2 c =
@@ -20,4 +14,8 @@ returns-2 c =
     ap gives (c .with-sign .ensures ∙ sym (number-of ok (members _ ok (one-member p)) _)) ∙ goes-on _ _ _ _ h
 
 pub answer-signed-spec : {M : Type 1} → statement M
-answer-signed-spec = tie.close (tie.spec (λ c κs. search needs) (λ c. search needs) (λ c. search needs) (λ c κs. search needs) returns returns-2)
+answer-signed-spec =
+    tie.close
+    (tie.spec
+    (λ c κs. search needs) (λ c. search needs) (λ c. search needs) (λ c κs. search needs)
+    (λ c. ends _ _ _ _ (sym (c .before .before .before .enter .ensures) ∙ c .before .why .given .1)) returns-2)

@@ -1,13 +1,10 @@
 -- `rump::constants::power` meets its contract.
-use Rattle.theory.proofs.Prelude.{ℕ, _+_, _^_, _*_, false, _∙_, ap, _≡_, mul-comm, arith, w32, SFits, needs}
+use Rattle.theory.proofs.Prelude.{ℕ, _+_, _^_, false, _∙_, ap, _≡_, mul-comm, arith, w32, SFits, needs}
 use Rattle.theory.proofs.Powers.{pow-add}
-use Rattle.format.proofs.Signed.{back}
-use Rattle.number.specs.Exponents.{belowZero}
-use Rattle.number.specs.Numbers.{number}
-use Rattle.number.proofs.Membership.{known}
-use Rattle.number.proofs.Values.{emin-admitted}
+use Rattle.number.proofs.Prelude.{back, belowZero, number, known, emin-admitted}
 use Rattle.arithmetic.proofs.Prepared.{below-most}
 use Rattle.rump.proofs.Reach.{reach}
+use Rattle.rump.proofs.Lines.{power-has, constant-answers}
 use Rattle.rump.proofs.constants.power.Statement.{statement}
 use Rattle.rump.proofs.constants.power.Tie as tie
 
@@ -34,16 +31,15 @@ power-number-requires c κs =
     let r = reach (k .admits) (s .pre .1) in
     (s .pre .0, omega (arith, unit c, k .admits .digits-low, k .highest, r .span, r .high, s .pre .2))
 
--- β ^ k times 1, in units
-split : (β i k : ℕ) → β ^ (i + k) ≡ β ^ k * β ^ i
-split β i k = pow-add β i k ∙ mul-comm (β ^ i) (β ^ k)
-
 returns : tie.Need-returns
 returns c =
     let u = c .before in
-    let s = u .before .before .args in
-    let f = s .prepared .format in
-    c .power-number .ensures ∙ ap (λ (i : ℕ). number f false (f .base ^ (i + s .k))) (unit u) ∙ ap (number f false) (split (f .base) (belowZero (f .emin)) (s .k))
+    let s = u .before .before in
+    let f = s .args .prepared .format in
+    let a = known (s .pre .0) .admits in
+    let k = s .args .k in
+    constant-answers (power-has a (reach a (s .pre .1)) k (s .pre .2))
+    (c .power-number .ensures ∙ ap (number f false) (ap (λ (i : ℕ). f .base ^ (i + k)) (unit u) ∙ pow-add (f .base) _ k ∙ mul-comm _ (f .base ^ k)))
 
 pub power-spec : {M : Type 1} → statement M
 power-spec =

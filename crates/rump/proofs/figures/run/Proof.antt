@@ -1,7 +1,6 @@
 -- `rump::figures::run` meets its contract.
 use Rattle.theory.proofs.Prelude.{_∙_, ap, _≡_, sym, needs}
-use Rattle.format.specs.declared.Format.{Format}
-use Rattle.format.specs.Given.{Given}
+use Rattle.number.proofs.Prelude.{Format, Given}
 use Rattle.number.specs.declared.Number.{Number}
 use Rattle.rump.specs.declared.Figure.{Figure}
 use Rattle.rump.specs.Routes.{figureOf}
@@ -12,21 +11,12 @@ use Rattle.rump.proofs.figures.run.Tie as tie
 by : (f : Format) (x : Number) {figure arm : Figure} {r : Given Number} → figure ≡ arm → r ≡ figureOf arm f x → r ≡ figureOf figure f x
 by f x e h = h ∙ sym (ap (λ (g : Figure). figureOf g f x) e)
 
-returns : tie.Need-returns
-returns c = by _ _ (c .before .enum-told .given .1) (c .first-figure .ensures)
-
-returns-2 : tie.Need-returns-2
-returns-2 c = by _ _ (c .before .enum-told2 .given .1) (c .third-figure .ensures)
-
-returns-3 : tie.Need-returns-3
-returns-3 c = by _ _ (c .before .enum-told3 .given .1) (c .fourth-figure .ensures)
-
-returns-4 : tie.Need-returns-4
-returns-4 c = by _ _ (c .before .enum-told4 .given .1) (c .fifth-figure .ensures)
-
 pub run-spec : {M : Type 1} → statement M
 run-spec =
     tie.close
     (tie.spec
     (λ c. search needs) (λ c κs. search needs) (λ c. search needs) (λ c κs. search needs) (λ c. search needs) (λ c κs. search needs)
-    (λ c. search needs) (λ c κs. search needs) returns returns-2 returns-3 returns-4)
+    (λ c. search needs) (λ c κs. search needs) (λ c. by _ _ (c .before .enum-told .given .1) (c .first-figure .ensures))
+    (λ c. by _ _ (c .before .enum-told2 .given .1) (c .third-figure .ensures))
+    (λ c. by _ _ (c .before .enum-told3 .given .1) (c .fourth-figure .ensures))
+    (λ c. by _ _ (c .before .enum-told4 .given .1) (c .fifth-figure .ensures)))

@@ -1,10 +1,7 @@
 -- `rump::premises::exponents_suffice` meets its contract.
 use Rattle.theory.proofs.Prelude.{_∙_, _≡_, ap₂, arith, leb, w32, SFits, needs}
 use Rattle.theory.proofs.Tests.{refuted}
-use Rattle.format.proofs.Signed.{back}
-use Rattle.number.specs.Exponents.{aboveZero, belowZero}
-use Rattle.number.proofs.Membership.{known}
-use Rattle.number.proofs.Values.{emin-admitted}
+use Rattle.number.proofs.Prelude.{back, aboveZero, belowZero, known, emin-admitted}
 use Rattle.rump.proofs.Reach.{reach, premise-by}
 use Rattle.rump.proofs.premises.exponents_suffice.Statement.{statement}
 use Rattle.rump.proofs.premises.exponents_suffice.Tie as tie

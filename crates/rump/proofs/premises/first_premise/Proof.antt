@@ -1,29 +1,14 @@
 -- `rump::premises::first_premise` meets its contract.
-use Rattle.theory.proofs.Prelude.{ℕ, _+_, _^_, _-_, true, false, _∙_, ap, _≡_, sym, ap₂, arith, ltb, pos, needs}
-use Rattle.theory.proofs.Tests.{never, refuted, denied, granted}
+use Rattle.theory.proofs.Prelude.{ℕ, _+_, _^_, _-_, false, _∙_, ap, _≡_, ap₂, arith, ltb, pos}
 use Rattle.theory.proofs.Wide.{wide-pow}
-use Rattle.format.specs.Formats.{highestPlace}
-use Rattle.format.proofs.Formats.{positional}
-use Rattle.number.specs.Numbers.{magnitude, number}
-use Rattle.number.proofs.Membership.{known}
-use Rattle.number.proofs.Values.{highest-most}
-use Rattle.rump.specs.Premises.{premise}
-use Rattle.rump.proofs.Reach.{reach, power-most, first-format, first-by}
+use Rattle.number.proofs.Prelude.{highestPlace, positional, magnitude, number, known, highest-most}
+use Rattle.rump.proofs.Reach.{reach, power-most, first-by}
 use Rattle.rump.proofs.Lines.{Has, number-has, has-size}
 use Rattle.rump.proofs.premises.first_premise.Statement.{statement}
 use Rattle.rump.proofs.premises.first_premise.Tie as tie
 
-returns : tie.Need-returns
-returns c =
-    let e = c .before in
-    let s = e .before .args in
-    refuted (λ h. never (sym (first-format (s .prepared .format) (s .x) h) ∙ denied (e .exponents-suffice .ensures) (c .if1 .taken)))
-
 abbrev start : tie.After-struct-known → tie.Start
-start c = c .before .before .before
-
-suffice : (c : tie.After-struct-known) → premise (start c .args .prepared .format) ≡ true
-suffice c = let e = c .before in granted (e .before .exponents-suffice .ensures) (e .if1 .left)
+start c = c .before
 
 add-power-number : tie.Need-add-power-number
 add-power-number c =
@@ -33,7 +18,7 @@ add-power-number c =
 sub-power-number : tie.Need-sub-power-number
 sub-power-number c =
     let k = known (start c .pre .usable) in
-    let r = reach (k .admits) (suffice c) in
+    let r = reach (k .admits) (start c .pre .kept) in
     omega (arith, k .highest, k .digits, r .low, r .span)
 
 power-number-requires : tie.Need-power-number-requires
@@ -55,15 +40,15 @@ bound c =
 is-smaller-requires : tie.Need-is-smaller-requires
 is-smaller-requires c κs = let s = start (c .before) in (s .pre .usable .format, s .pre .number, bound c .number)
 
-returns-2 : tie.Need-returns-2
-returns-2 c =
+returns : tie.Need-returns
+returns c =
     let b = c .before in
     let s = start (b .before) in
     let f = s .args .prepared .format in
-    c .is-smaller .ensures ∙ ap (ltb (magnitude f (s .args .x))) (has-size (bound b)) ∙ first-by f (s .args .x) (suffice (b .before))
+    c .is-smaller .ensures ∙ ap (ltb (magnitude f (s .args .x))) (has-size (bound b)) ∙ first-by f (s .args .x) (s .pre .kept)
 
 pub first-premise-spec : {M : Type 1} → statement M
 first-premise-spec =
     tie.close
     (tie.spec
-    (λ c κs. search needs) returns add-power-number sub-power-number power-number-requires is-smaller-requires returns-2)
+    add-power-number sub-power-number power-number-requires is-smaller-requires returns)

@@ -1,39 +1,25 @@
 -- `rump::premises::last_premise` meets its contract.
-use Rattle.theory.proofs.Prelude.{ℕ, _≤_, _^_, _*_, _-_, true, false, inr, _∙_, ap, _≡_, sym, ap₂, mul-le-mul-right, pow-zero, mul-pos, le-refl, arith, ltb, pos, needs}
+use Rattle.theory.proofs.Prelude.{ℕ, _≤_, _^_, _*_, _-_, false, inr, _∙_, ap, _≡_, ap₂, mul-le-mul-right, pow-zero, mul-pos, le-refl, arith, ltb, pos}
 use Rattle.theory.specs.Wide.{Canonical}
-use Rattle.theory.proofs.Tests.{never, refuted, denied, granted}
+use Rattle.theory.proofs.Tests.{refuted}
 use Rattle.theory.proofs.Powers.{pow-pos, pow-half}
-use Rattle.format.specs.declared.Format.{Format}
-use Rattle.format.specs.declared.Prepared.{Prepared}
+use Rattle.number.proofs.Prelude.{Format, Prepared, placeOf, magnitude, greatest, number, Usable, members, known}
 use Rattle.number.specs.declared.Number.{Number}
-use Rattle.number.specs.Checks.{Usable}
-use Rattle.number.specs.Numbers.{placeOf, magnitude, greatest, number}
-use Rattle.number.proofs.Membership.{members, known}
 use Rattle.number.proofs.Values.{member-greatest, greatest-wide}
 use Rattle.arithmetic.proofs.Prepared.{no-magnitude}
-use Rattle.rump.specs.Premises.{premise}
-use Rattle.rump.proofs.Reach.{last, last-format, last-by}
+use Rattle.rump.proofs.Reach.{last, last-by}
 use Rattle.rump.proofs.Lines.{Has, number-has, has-size}
 use Rattle.rump.proofs.premises.last_premise.Statement.{statement}
 use Rattle.rump.proofs.premises.last_premise.Tie as tie
 
-returns : tie.Need-returns
-returns c =
-    let e = c .before in
-    let s = e .before .args in
-    refuted (λ h. never (sym (last-format (s .prepared .format) (s .x) h) ∙ denied (e .exponents-suffice .ensures) (c .if1 .taken)))
-
 abbrev start : tie.After-struct-known → tie.Start
-start c = c .before .before .before
-
-suffice : (c : tie.After-struct-known) → premise (start c .args .prepared .format) ≡ true
-suffice c = let e = c .before in granted (e .before .exponents-suffice .ensures) (e .if1 .left)
+start c = c .before
 
 -- zero
-returns-2 : tie.Need-returns-2
-returns-2 c =
+returns : tie.Need-returns
+returns c =
     let s = start (c .before) in
-    refuted (λ h. omega (arith, last (s .pre .usable) (s .args .x) (s .pre .number) h .some, no-magnitude (s .args .prepared .format) (s .args .x) (c .if2 .taken)))
+    refuted (λ h. omega (arith, last (s .pre .usable) (s .args .x) (s .pre .number) h .some, no-magnitude (s .args .prepared .format) (s .args .x) (c .if1 .taken)))
 
 -- ---- the greatest number
 two-least : {q : Prepared} → Usable q → 2 ≤ q .format .base ^ q .format .digits
@@ -68,8 +54,8 @@ some : (f : Format) (x : Number) → 2 ≤ f .base → (x .significand ≡ 0 →
 unfolding magnitude
 some f x b h = mul-pos (omega arith) (pow-pos b (placeOf f x))
 
-returns-3 : tie.Need-returns-3
-returns-3 c =
+returns-2 : tie.Need-returns-2
+returns-2 c =
     let n = c .before in
     let e = n .before in
     let s = start (e .before) in
@@ -77,10 +63,10 @@ returns-3 c =
     let x = s .args .x in
     let a = known (s .pre .usable) .admits in
     c .is-smaller .ensures ∙ ap (ltb (magnitude f x)) (has-size (bound n))
-    ∙ last-by f x (suffice (e .before)) (some f x (a .base-low) (e .if2 .left)) (member-greatest a (members x a (s .pre .number)))
+    ∙ last-by f x (s .pre .kept) (some f x (a .base-low) (e .if1 .left)) (member-greatest a (members x a (s .pre .number)))
 
 pub last-premise-spec : {M : Type 1} → statement M
 last-premise-spec =
     tie.close
     (tie.spec
-    (λ c κs. search needs) returns returns-2 sub-number-at number-at-requires is-smaller-requires returns-3)
+    returns sub-number-at number-at-requires is-smaller-requires returns-2)

@@ -2,30 +2,15 @@
 use Rattle.theory.proofs.Prelude.{true, false, [], _∷_, _∙_, ap, _≡_, sym, needs}
 use Rattle.theory.specs.Tests.{unless}
 use Rattle.theory.proofs.Tests.{unless-passed, unless-failed, denied, granted}
-use Rattle.format.specs.declared.Format.{Format}
-use Rattle.format.specs.declared.Preparation.the-variants.{Ready}
-use Rattle.format.specs.Given.{Given, refused}
+use Rattle.number.proofs.Prelude.{Format, Given, refused, member, magnitude, number, entered, Operand, members, member-made, known, number-of, passed, operand, answered, ends}
 use Rattle.number.specs.declared.Number.{Number}
-use Rattle.number.specs.Checks.{Operand, entered}
-use Rattle.number.specs.Numbers.{member, magnitude, number}
-use Rattle.number.proofs.Membership.{members, member-made, known}
+use Rattle.format.specs.declared.Preparation.the-variants.{Ready}
 use Rattle.number.proofs.Negation.{signed-member}
-use Rattle.number.proofs.Values.{number-of}
-use Rattle.number.proofs.CheckLaws.{passed, operand, answered, ends}
-use Rattle.rump.specs.declared.Figure.{Figure}
-use Rattle.rump.specs.declared.Figure.the-variants.{First, Third, Fourth, Fifth}
-use Rattle.rump.specs.Premises.{premise, premiseOf}
+use Rattle.rump.specs.Premises.{premiseOf}
 use Rattle.rump.specs.Routes.{figureOf, figured, route}
-use Rattle.rump.proofs.Reach.{first-format, last-format}
+use Rattle.rump.proofs.Reach.{of-format}
 use Rattle.rump.proofs.routes.route.Statement.{statement}
 use Rattle.rump.proofs.routes.route.Tie as tie
-
--- the premise of each figure is one of the format too
-of-format : (figure : Figure) (f : Format) (x : Number) → premiseOf figure f x ≡ true → premise f ≡ true
-of-format First f x h = first-format f x h
-of-format Third f x h = last-format f x h
-of-format Fourth f x h = last-format f x h
-of-format Fifth f x h = last-format f x h
 
 -- ---- after the checks
 module _ (c : tie.After-prepared) where
@@ -48,9 +33,6 @@ module _ (c : tie.After-prepared) where
   answers e =
       let s = start .args in
       e ∙ answered _ _ _ (λ (g : Format). unless (premiseOf (s .figure) g (s .x)) (refused 8) (figured (s .figure) g (s .x))) ready
-
-premise-holds-requires : tie.Need-premise-holds-requires
-premise-holds-requires c κs = inside (c .before)
 
 returns : tie.Need-returns
 returns c =
@@ -97,5 +79,5 @@ pub route-spec : {M : Type 1} → statement M
 route-spec =
     tie.close
     (tie.spec
-    (λ c κs. search needs) (λ c. search needs) (λ c. search needs) premise-holds-requires returns (λ c κs. search needs) run-requires returns-2
-    returns-3)
+    (λ c κs. search needs) (λ c. search needs) (λ c. search needs) (λ c κs. inside (c .before)) returns (λ c κs. search needs) run-requires
+    returns-2 returns-3)

@@ -1,11 +1,9 @@
 -- `units::neighbours::away` meets its contract.
 use Rattle.theory.proofs.Prelude.{ℕ, _+_, _^_, _*_, suc, _∙_, ap, _≡_, sym, refl, ap₂, add-one, arith, needs}
-use Rattle.format.proofs.Formats.{positional}
-use Rattle.number.specs.Numbers.{delivered}
+use Rattle.theory.specs.Wide.{Canonical}
+use Rattle.number.proofs.Prelude.{positional, placeOf, magnitude, delivered, highest-most, member-canonical, member-highest}
 use Rattle.number.proofs.Membership.{Member, members, Known, known}
-use Rattle.number.proofs.Values.{member-canonical, member-highest, highest-most}
-use Rattle.units.proofs.Forms.{canonical-as, power-high, next-canonical}
-use Rattle.units.proofs.Written.{next-written, carry-written}
+use Rattle.units.proofs.Forms.{canonical-as, power-high, next-canonical, next-size, carry-size}
 use Rattle.units.proofs.neighbours.away.Statement.{statement}
 use Rattle.units.proofs.neighbours.away.Tie as tie
 
@@ -14,6 +12,9 @@ facts c = known (c .pre .usable)
 
 inner : (c : tie.Start) → Member (c .args .prepared .format) (c .args .x)
 inner c = members _ (facts c .admits) (c .pre .number)
+
+own : (c : tie.Start) → Canonical (c .args .prepared .format .base) (c .args .prepared .format .digits) (c .args .x .significand) (placeOf (c .args .prepared .format) (c .args .x))
+own c = member-canonical (facts c .admits) (inner c)
 
 add-next : tie.Need-add-next
 add-next c =
@@ -36,13 +37,15 @@ deliver-requires c κs =
     (s .pre .usable, canonical-as (facts s .least) refl (power-high (positional (facts s .admits)) _))
 
 returns : tie.Need-returns
+unfolding magnitude
 returns c =
     let p = c .before .before .before .before in
     let s = p .before in
     let f = s .args .prepared .format in
     c .deliver .ensures
     ∙ ap (delivered f (s .args .negative))
-    (ap₂ (λ (m k : ℕ). m * f .base ^ (k + 1)) (facts s .least) (p .place-of .ensures) ∙ carry-written (facts s .admits) (inner s) (last (c .before)))
+    (ap₂ (λ (m k : ℕ). m * f .base ^ (k + 1)) (facts s .least) (p .place-of .ensures) ∙ carry-size (positional (facts s .admits)) (own s) (last (c .before))
+    ∙ sym (next-size (positional (facts s .admits)) (own s)))
 
 deliver-requires-2 : tie.Need-deliver-requires-2
 deliver-requires-2 c κs =
@@ -51,17 +54,18 @@ deliver-requires-2 c κs =
     let a = facts s .admits in (
       s .pre .usable,
       canonical-as (add-one (s .args .x .significand)) (p .place-of .ensures)
-          (next-canonical (positional a) (member-canonical a (inner s)) (omega (arith, inner s .significand-high, c .if1 .left, facts s .bound))),
+          (next-canonical (positional a) (own s) (omega (arith, inner s .significand-high, c .if1 .left, facts s .bound))),
     )
 
 returns-2 : tie.Need-returns-2
+unfolding magnitude
 returns-2 c =
     let p = c .before .before .before .before in
     let s = p .before in
     let f = s .args .prepared .format in
     c .deliver2 .ensures
     ∙ ap (delivered f (s .args .negative))
-    (ap₂ (λ (m k : ℕ). m * f .base ^ k) (add-one (s .args .x .significand)) (p .place-of .ensures) ∙ next-written (facts s .admits) (inner s))
+    (ap₂ (λ (m k : ℕ). m * f .base ^ k) (add-one (s .args .x .significand)) (p .place-of .ensures) ∙ sym (next-size (positional (facts s .admits)) (own s)))
 
 pub away-spec : {M : Type 1} → statement M
 away-spec =

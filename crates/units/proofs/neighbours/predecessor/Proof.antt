@@ -1,8 +1,7 @@
 -- `units::neighbours::predecessor` meets its contract.
 use Rattle.theory.proofs.Prelude.{[], _∷_, inl, inr, _∙_, _≡_, sym, arith, needs}
 use Rattle.format.specs.declared.Preparation.the-variants.{Ready}
-use Rattle.number.specs.Checks.{entered}
-use Rattle.number.proofs.CheckLaws.{ends, passed, operand}
+use Rattle.number.proofs.Prelude.{entered, passed, operand, ends}
 use Rattle.units.specs.Neighbours.{predecessorOf}
 use Rattle.units.proofs.Sides.{away-below, toward-below}
 use Rattle.units.proofs.neighbours.predecessor.Statement.{statement}
@@ -10,15 +9,6 @@ use Rattle.units.proofs.neighbours.predecessor.Tie as tie
 
 ready : (c : tie.After-prepared) → let s = c .before .before .before .args in entered (s .format) [] (s .x ∷ []) ≡ Ready (c .prepared .given .0 .0)
 ready c = sym (c .before .before .enter .ensures) ∙ c .prepared .given .1
-
-away-requires : tie.Need-away-requires
-away-requires c κs = operand (passed _ _ _ (ready (c .before .before)))
-
-returns : tie.Need-returns
-returns c = away-below _ _ (ready (c .before .before .before)) (inl (c .before .if1 .taken)) (c .away .ensures)
-
-away-requires-2 : tie.Need-away-requires-2
-away-requires-2 c κs = operand (passed _ _ _ (ready (c .before .before .before .before)))
 
 returns-2 : tie.Need-returns-2
 returns-2 c = away-below _ _ (ready (c .before .before .before .before .before)) (inr (c .before .if2 .taken)) (c .away2 .ensures)
@@ -40,5 +30,6 @@ pub predecessor-spec : {M : Type 1} → statement M
 predecessor-spec =
     tie.close
     (tie.spec
-    (λ c κs. search needs) (λ c. search needs) (λ c. search needs) away-requires returns away-requires-2 returns-2 toward-requires returns-3
-    returns-4)
+    (λ c κs. search needs) (λ c. search needs) (λ c. search needs) (λ c κs. operand (passed _ _ _ (ready (c .before .before))))
+    (λ c. away-below _ _ (ready (c .before .before .before)) (inl (c .before .if1 .taken)) (c .away .ensures))
+    (λ c κs. operand (passed _ _ _ (ready (c .before .before .before .before)))) returns-2 toward-requires returns-3 returns-4)

@@ -1,8 +1,7 @@
 -- `units::neighbours::successor` meets its contract.
 use Rattle.theory.proofs.Prelude.{[], _∷_, _∙_, _≡_, sym, needs}
 use Rattle.format.specs.declared.Preparation.the-variants.{Ready}
-use Rattle.number.specs.Checks.{entered}
-use Rattle.number.proofs.CheckLaws.{ends, passed, operand}
+use Rattle.number.proofs.Prelude.{entered, passed, operand, ends}
 use Rattle.units.specs.Neighbours.{successorOf}
 use Rattle.units.proofs.Sides.{negative-digits, away-above, toward-above}
 use Rattle.units.proofs.neighbours.successor.Statement.{statement}
@@ -16,21 +15,15 @@ toward-requires c κs =
     let k = c .before .before in
     (operand (passed _ _ _ (ready k)), negative-digits _ _ (ready k) (c .if1 .taken))
 
-returns : tie.Need-returns
-returns c = toward-above _ _ (ready (c .before .before .before)) (c .before .if1 .taken) (c .toward .ensures)
-
 returns-2 : tie.Need-returns-2
 unfolding successorOf
 returns-2 c = ends _ _ _ _ (sym (c .before .before .before .enter .ensures) ∙ c .before .why .given .1)
-
-away-requires : tie.Need-away-requires
-away-requires c κs = operand (passed _ _ _ (ready (c .before .before)))
-
-returns-3 : tie.Need-returns-3
-returns-3 c = away-above _ _ (ready (c .before .before .before)) (c .before .if1 .left) (c .away .ensures)
 
 pub successor-spec : {M : Type 1} → statement M
 successor-spec =
     tie.close
     (tie.spec
-    (λ c κs. search needs) (λ c. search needs) (λ c. search needs) toward-requires returns away-requires returns-2 returns-3)
+    (λ c κs. search needs) (λ c. search needs) (λ c. search needs) toward-requires
+    (λ c. toward-above _ _ (ready (c .before .before .before)) (c .before .if1 .taken) (c .toward .ensures))
+    (λ c κs. operand (passed _ _ _ (ready (c .before .before)))) returns-2
+    (λ c. away-above _ _ (ready (c .before .before .before)) (c .before .if1 .left) (c .away .ensures)))

@@ -1,10 +1,7 @@
 -- `units::places::answer_place` meets its contract.
 use Rattle.theory.proofs.Prelude.{[], _∷_, _∙_, ap, _≡_, sym, refl, needs}
-use Rattle.format.specs.declared.Format.{Format}
+use Rattle.number.proofs.Prelude.{Format, gives, checked, passed, operand, answered, ends}
 use Rattle.number.specs.declared.Number.{Number}
-use Rattle.format.specs.Given.{Given, gives, refused}
-use Rattle.number.specs.Checks.{checked}
-use Rattle.number.proofs.CheckLaws.{ends, passed, operand, answered}
 use Rattle.units.specs.declared.places.Place.{Place}
 use Rattle.units.specs.declared.places.Place.the-variants.{First, Last, Least}
 use Rattle.units.specs.Places.{firstPlace, lastPlace, leastPlace, placeNumber, placeAnswer}

@@ -1,9 +1,7 @@
 -- `units::places::last_place` meets its contract.
 use Rattle.theory.proofs.Prelude.{ℕ, _^_, false, _∙_, ap, refl, arith, needs}
 use Rattle.theory.specs.Units.{ulp}
-use Rattle.number.specs.Numbers.{number}
-use Rattle.number.proofs.Membership.{members, known}
-use Rattle.number.proofs.Values.{member-highest}
+use Rattle.number.proofs.Prelude.{number, members, known, member-highest}
 use Rattle.units.proofs.Written.{zero-place, last-power}
 use Rattle.units.proofs.places.last_place.Statement.{statement}
 use Rattle.units.proofs.places.last_place.Tie as tie

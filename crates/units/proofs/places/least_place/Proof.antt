@@ -1,9 +1,8 @@
 -- `units::places::least_place` meets its contract.
 use Rattle.theory.proofs.Prelude.{ℕ, _<_, _+_, _^_, false, _∙_, ap, _≡_, refl, ap₂, arith, needs}
 use Rattle.theory.specs.Units.{uls, zeros}
-use Rattle.number.specs.Numbers.{placeOf, number}
+use Rattle.number.proofs.Prelude.{placeOf, number, highest-most}
 use Rattle.number.proofs.Membership.{members, known, usable-scaled}
-use Rattle.number.proofs.Values.{highest-most}
 use Rattle.units.proofs.Written.{zero-place, least-power, least-room}
 use Rattle.units.proofs.places.least_place.Statement.{statement}
 use Rattle.units.proofs.places.least_place.Tie as tie
@@ -42,9 +41,6 @@ add-power-number c =
     let k = known (start c .pre .usable) in
     omega (arith, room c, k .admits .digits-high, k .highest, highest-most (k .admits))
 
-power-number-requires : tie.Need-power-number-requires
-power-number-requires c κs = (start c .pre .usable, room c)
-
 returns-2 : tie.Need-returns-2
 returns-2 c =
     let s = start (c .before) in
@@ -57,4 +53,5 @@ returns-2 c =
 pub least-place-spec : {M : Type 1} → statement M
 least-place-spec =
     tie.close
-    (tie.spec returns (λ c κs. search needs) trailing-zeros-requires add-power-number power-number-requires returns-2)
+    (tie.spec
+    returns (λ c κs. search needs) trailing-zeros-requires add-power-number (λ c κs. (start c .pre .usable, room c)) returns-2)

@@ -11,18 +11,11 @@ told : (s : tie.Start) {p : Place} {r : Number} → s .args .place ≡ p → r �
     → r ≡ placeNumber (s .args .place) (s .args .prepared .format) (s .args .x)
 told s e h = h ∙ ap (λ (p : Place). placeNumber p (s .args .prepared .format) (s .args .x)) (sym e)
 
-returns : tie.Need-returns
-returns c = told (c .before .before .before) (c .before .enum-told .given .1) (c .first-place .ensures)
-
-returns-2 : tie.Need-returns-2
-returns-2 c = told (c .before .before .before) (c .before .enum-told2 .given .1) (c .last-place .ensures)
-
-returns-3 : tie.Need-returns-3
-returns-3 c = told (c .before .before .before) (c .before .enum-told3 .given .1) (c .least-place .ensures)
-
 pub place-number-spec : {M : Type 1} → statement M
 place-number-spec =
     tie.close
     (tie.spec
-    (λ c. search needs) (λ c κs. search needs) (λ c. search needs) (λ c κs. search needs) (λ c. search needs) (λ c κs. search needs) returns returns-2
-    returns-3)
+    (λ c. search needs) (λ c κs. search needs) (λ c. search needs) (λ c κs. search needs) (λ c. search needs) (λ c κs. search needs)
+    (λ c. told (c .before .before .before) (c .before .enum-told .given .1) (c .first-place .ensures))
+    (λ c. told (c .before .before .before) (c .before .enum-told2 .given .1) (c .last-place .ensures))
+    (λ c. told (c .before .before .before) (c .before .enum-told3 .given .1) (c .least-place .ensures)))

@@ -53,9 +53,6 @@ start c = c .before .before .before .before
 next : (c : tie.In-loop Inv-loop μ-loop) → c .before .loop .power * start (c .before) .args .scale .base ≤ start (c .before) .args .m
 next c = within (start (c .before) .pre .0 .base-least) (c .loop-test .taken)
 
-mul-power : tie.Need-mul-power Inv-loop μ-loop
-mul-power c = omega (arith, next c, start (c .before) .fits .m)
-
 grows : (β : ℕ) {p : ℕ} → 2 ≤ β → 1 ≤ p → p < p * β
 grows β {p} h k = omega (arith, mul-le-mul-left p h)
 
@@ -83,4 +80,5 @@ returns-3 c =
 pub leading-power-spec : {M : Type 1} → statement M
 leading-power-spec =
     tie.close
-    (tie.spec Inv-loop μ-loop returns returns-2 div-bound loop-holds mul-power loop-less loop-again returns-3)
+    (tie.spec
+    Inv-loop μ-loop returns returns-2 div-bound loop-holds (λ c. omega (arith, next c, start (c .before) .fits .m)) loop-less loop-again returns-3)

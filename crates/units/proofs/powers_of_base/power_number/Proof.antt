@@ -4,9 +4,7 @@ use Rattle.theory.specs.Wide.{Canonical}
 use Rattle.theory.proofs.Powers.{pow-mono}
 use Rattle.format.specs.declared.Scale.{Scale}
 use Rattle.format.specs.Formats.{greatestPower, Scaled}
-use Rattle.format.proofs.Formats.{positional}
-use Rattle.number.specs.Numbers.{number}
-use Rattle.number.proofs.Values.{highest-most}
+use Rattle.number.proofs.Prelude.{positional, number, highest-most}
 use Rattle.number.proofs.Membership.{known, usable-scaled}
 use Rattle.units.proofs.Forms.{power-low, power-high, power-split}
 use Rattle.units.proofs.powers_of_base.power_number.Statement.{statement}

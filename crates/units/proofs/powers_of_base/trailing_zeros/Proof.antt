@@ -13,15 +13,6 @@ Inv-loop base m rest₀ count₀ rest count = (m ≡ rest * base ^ count) × (1 
 abbrev μ-loop : tie.MeasureT-loop
 μ-loop base m rest₀ count₀ rest count = rest
 
-loop-holds : tie.Need-loop-holds Inv-loop μ-loop
-loop-holds c = (rw (pow-zero, mul-one), c .pre .1)
-
-rem-loop : tie.Need-rem-loop Inv-loop μ-loop
-rem-loop c = omega (arith, c .before .pre .0)
-
-div-rest : tie.Need-div-rest Inv-loop μ-loop
-div-rest c = omega (arith, c .before .before .pre .0)
-
 -- the count stays below m
 room : {β m rest count : ℕ} → 2 ≤ β → m ≡ rest * β ^ count → 1 ≤ rest → count < m
 room {β} {m} {rest} {count} h e l = omega (arith, below-pow h count, mul-le-mul-right (β ^ count) l)
@@ -50,9 +41,6 @@ turn c = shorter (c .before .before .args .base) (c .before .loop .rest) (c .bef
 moved : (β : ℕ) {m rest : ℕ} (count : ℕ) → m ≡ rest * β ^ count → rest ≡ rest / β * β → m ≡ rest / β * β ^ (count + 1)
 moved β {m} {rest} count e r = e ∙ ap (λ (v : ℕ). v * β ^ count) r ∙ rw (add-one, pow-suc) (omega arith)
 
-loop-less : tie.Need-loop-less Inv-loop μ-loop
-loop-less c = turn c .0
-
 loop-again : tie.Need-loop-again Inv-loop μ-loop
 loop-again c = let t = turn c in (moved (c .before .before .args .base) (c .before .loop .count) (c .before .loop .inv .0) (t .2), t .1)
 
@@ -73,4 +61,6 @@ returns c =
 pub trailing-zeros-spec : {M : Type 1} → statement M
 trailing-zeros-spec =
     tie.close
-    (tie.spec Inv-loop μ-loop loop-holds rem-loop div-rest add-count loop-less loop-again returns)
+    (tie.spec
+    Inv-loop μ-loop (λ c. (rw (pow-zero, mul-one), c .pre .1)) (λ c. omega (arith, c .before .pre .0))
+    (λ c. omega (arith, c .before .before .pre .0)) add-count (λ c. turn c .0) loop-again returns)

@@ -1,11 +1,11 @@
--- `fast_two_sum::check::same_value` meets its contract.
+-- `number::order::same_value` meets its contract.
 use Rattle.theory.proofs.Prelude.{_∙_, ap, sym, arith, needs}
 use Rattle.theory.proofs.Tests.{refuted}
 use Rattle.theory.proofs.Integers.{above, below, lt-parts}
 use Rattle.number.proofs.Membership.{equal-true, equal-made}
 use Rattle.number.proofs.Comparison.{less-says, equal-says, greater-says}
-use Rattle.fast_two_sum.proofs.check.same_value.Statement.{statement}
-use Rattle.fast_two_sum.proofs.check.same_value.Tie as tie
+use Rattle.number.proofs.order.same_value.Statement.{statement}
+use Rattle.number.proofs.order.same_value.Tie as tie
 
 returns : tie.Need-returns
 returns c =
