@@ -1,10 +1,11 @@
 -- The parts of a pattern as the significand and the place of a number of published format 2.
 use Rattle.theory.proofs.Prelude.{ℕ, _<_, _+_, _^_, _*_, _-_, suc, zero, true, false, Bool, cond, not, inl, inr, _∙_, ap, _≡_, refl, arith, eqb, ne-eqb, eqb-true, eqb-false}
+use Rattle.theory.specs.Place.{Positional}
 use Rattle.theory.specs.Wide.{Canonical}
 use Rattle.theory.proofs.Tests.{never, not-true}
 use Rattle.format.specs.Formats.{admitted}
 use Rattle.format.specs.Published.{binary32, publishedFormat}
-use Rattle.format.proofs.Formats.{Admitted, admits}
+use Rattle.format.proofs.Formats.{Admitted, admits, positional}
 use Rattle.format.proofs.PublishedFormats.{published-admitted}
 use Rattle.number.specs.Numbers.{number}
 use Rattle.number.proofs.Values.{written, number-canonical}
@@ -17,6 +18,9 @@ binary32-admitted = published-admitted 2 refl
 
 pub binary32-limits : Admitted binary32
 binary32-limits = admits binary32 binary32-admitted
+
+pub binary-24 : Positional 2 24
+binary-24 = positional binary32-limits
 
 -- ---- a significand and a place for each pattern
 abbrev pub significandOf : (field fraction : ℕ) → ℕ

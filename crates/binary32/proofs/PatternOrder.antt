@@ -7,7 +7,7 @@ use Rattle.theory.proofs.Integers.{above, below, neg-above, neg-below}
 use Rattle.format.specs.Published.{binary32}
 use Rattle.format.proofs.Signed.{Upto, Under, lt-true, lt-false, make-lt, make-ge}
 use Rattle.number.specs.declared.Number.{Number}
-use Rattle.format.specs.Given.{Given, gives, refused}
+use Rattle.format.specs.Given.{gives}
 use Rattle.number.specs.Numbers.{value}
 use Rattle.number.proofs.Values.{member-unique}
 use Rattle.binary32.specs.Patterns.{signOf, fieldOf, fractionOf, magnitudeRead, patternRead, patternWritten}

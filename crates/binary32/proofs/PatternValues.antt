@@ -1,17 +1,17 @@
 -- The values of patterns as whole multiples of 2 ^ -149: that of a finite pattern is the value of the number read, keys are in the
 -- order of the values, and what a list of patterns says of the list of its values.
-use Rattle.theory.proofs.Prelude.{ℕ, _≤_, _<_, _+_, _^_, _-_, _%_, true, false, Bool, cond, not, List, map, _∙_, ap, _≡_, sym, refl, ap₂, decLe, arith, eqb, ltb, pos, length, getD, length-map, ltZ, ne-eqb, eq-eqb, le-leb, lt-leb, le-ltb, lt-ltb, not-true, not-false}
+use Rattle.theory.proofs.Prelude.{ℕ, _≤_, _<_, _+_, _^_, _-_, _%_, true, false, Bool, cond, not, List, map, _∙_, ap, _≡_, sym, refl, ap₂, decLe, arith, eqb, ltb, pos, length, getD, length-map, ltZ, ne-eqb, eq-eqb, le-ltb, lt-ltb, not-true, not-false}
 use lib.ListN.{List·getD-map}
 use Rattle.theory.specs.Signed.{signed}
 use Rattle.theory.specs.Lists.{none}
 use Rattle.theory.specs.Tests.{_and_}
-use Rattle.theory.proofs.Integers.{neg-above, neg-below}
+use Rattle.theory.proofs.Integers.{above, below, neg-above, neg-below}
 use Rattle.theory.proofs.Lists.{none-at}
 use Rattle.theory.proofs.Tests.{and-made}
 use Rattle.format.specs.Published.{binary32}
-use Rattle.format.proofs.Signed.{Upto, Under, lt-true, lt-false}
+use Rattle.format.proofs.Signed.{lt-true, lt-false}
 use Rattle.number.specs.Numbers.{value}
-use Rattle.binary32.specs.Patterns.{signOf, fieldOf, finite, notFinite, magnitudeRead, patternValue, patternValues, numberRead, keyOf}
+use Rattle.binary32.specs.Patterns.{signOf, finite, notFinite, magnitudeRead, patternValue, patternValues, numberRead, keyOf}
 use Rattle.binary32.proofs.PatternOrder.{signedPattern, signed-order, magnitudes-ordered}
 use Rattle.binary32.proofs.RoundTrips.{read-made, read-value}
 
@@ -30,10 +30,6 @@ unfolding notFinite
 finite-fails n h = not-true (finite n) h
 
 -- by a test that was made
-pub field-finite : (n : ℕ) {field : ℕ} → field ≡ fieldOf n → not (eqb field 255) ≡ finite n
-unfolding finite
-field-finite n e = ap (λ (k : ℕ). not (eqb k 255)) e
-
 module _ (n : ℕ) {t : Bool} (e : t ≡ finite n) where
   pub finite-stops : not t ≡ true → notFinite n ≡ true
   unfolding notFinite
@@ -48,20 +44,13 @@ pub all-finite : (l : List ℕ) → none notFinite l ≡ true → (k : ℕ) → 
 all-finite l h k m = finite-made (getD l k 0) (none-at notFinite 0 l h k m)
 
 -- ---- keys
-abbrev keyAt : Bool → ℕ → ℕ
-keyAt s m = cond s (2 ^ 31 - m) (2 ^ 31 + m)
-
-keys-less : (s t : Bool) (m n : ℕ) → m < 2 ^ 31 → n < 2 ^ 31 → Under (signed s m) (signed t n) → keyAt s m < keyAt t n
-keys-less false false m n hm hn h = omega arith
-keys-less false true m n hm hn h = absurd (omega (arith, neg-above (pos n), neg-below (pos n)))
-keys-less true false m n hm hn h = omega (arith, neg-above (pos m), neg-below (pos m))
-keys-less true true m n hm hn h = omega (arith, neg-above (pos m), neg-below (pos m), neg-above (pos n), neg-below (pos n))
-
-keys-most : (s t : Bool) (m n : ℕ) → m < 2 ^ 31 → n < 2 ^ 31 → Upto (signed t n) (signed s m) → keyAt t n ≤ keyAt s m
-keys-most false false m n hm hn h = omega arith
-keys-most false true m n hm hn h = omega (arith, neg-above (pos n), neg-below (pos n))
-keys-most true false m n hm hn h = omega (arith, neg-above (pos m), neg-below (pos m))
-keys-most true true m n hm hn h = omega (arith, neg-above (pos m), neg-below (pos m), neg-above (pos n), neg-below (pos n))
+-- a key is 2 ^ 31 more than the signed pattern
+key-parts : (n : ℕ) → above (signedPattern n) + 2 ^ 31 ≡ keyOf n + below (signedPattern n)
+key-parts n = by (signOf n)
+  where
+    by : (s : Bool) → above (signed s (n % 2 ^ 31)) + 2 ^ 31 ≡ cond s (2 ^ 31 - n % 2 ^ 31) (2 ^ 31 + n % 2 ^ 31) + below (signed s (n % 2 ^ 31))
+    by false = omega arith
+    by true = omega (arith, neg-above (pos (n % 2 ^ 31)), neg-below (pos (n % 2 ^ 31)))
 
 -- the order of the keys is that of the values
 pub key-order : (a b : ℕ) {x y : ℕ} → x ≡ keyOf a → y ≡ keyOf b → ltb x y ≡ ltZ (patternValue a) (patternValue b)
@@ -72,8 +61,8 @@ key-order a b {x} {y} e f =
     ∙ sym (signed-order (magnitudes-ordered a b) (signOf a) (signOf b))
   where
     by : (t : Bool) → ltZ (signedPattern a) (signedPattern b) ≡ t → ltb (keyOf a) (keyOf b) ≡ t
-    by true g = lt-ltb (keyOf a) (keyOf b) (keys-less (signOf a) (signOf b) (a % 2 ^ 31) (b % 2 ^ 31) (omega arith) (omega arith) (lt-true (signedPattern a) (signedPattern b) g))
-    by false g = le-ltb (keyOf a) (keyOf b) (keys-most (signOf a) (signOf b) (a % 2 ^ 31) (b % 2 ^ 31) (omega arith) (omega arith) (lt-false (signedPattern a) (signedPattern b) g))
+    by true g = lt-ltb (keyOf a) (keyOf b) (omega (arith, lt-true (signedPattern a) (signedPattern b) g, key-parts a, key-parts b))
+    by false g = le-ltb (keyOf a) (keyOf b) (omega (arith, lt-false (signedPattern a) (signedPattern b) g, key-parts a, key-parts b))
 
 -- equal keys are those of equal values
 pub key-equal : (a b : ℕ) {x y : ℕ} → x ≡ keyOf a → y ≡ keyOf b
@@ -85,12 +74,6 @@ key-equal a b {x} {y} e f = by (decLe x y) (decLe y x) ∙ ap₂ (λ (s t : Bool
     by (yes h) (yes g) = eq-eqb x y (omega arith) ∙ sym (and-made (ap not (le-ltb x y g)) (ap not (le-ltb y x h)))
     by (yes h) (no g) = ne-eqb x y (λ e. omega arith) ∙ sym (rw (lt-ltb x y (omega arith), _and_))
     by (no h) g = ne-eqb x y (λ e. omega arith) ∙ sym (rw (le-ltb x y (omega arith), lt-ltb y x (omega arith), _and_))
-
-pub key-minus : (n : ℕ) → 2 ^ 31 ≤ n → 2 ^ 31 - n % 2 ^ 31 ≡ keyOf n
-key-minus n h = rw (le-leb (2 ^ 31) n h)
-
-pub key-plus : (n : ℕ) → n < 2 ^ 31 → 2 ^ 31 + n % 2 ^ 31 ≡ keyOf n
-key-plus n h = rw (lt-leb (2 ^ 31) n h)
 
 -- ---- lists
 pub zero-value : patternValue 0 ≡ pos 0

@@ -8,16 +8,15 @@ use Rattle.theory.specs.Signed.{signed}
 use Rattle.theory.proofs.Tests.{and-made, unless-passed}
 use Rattle.theory.proofs.Canonical.{canonical-wide}
 use Rattle.format.specs.Published.{binary32}
-use Rattle.format.proofs.Formats.{positional}
 use Rattle.number.specs.declared.Number.{Number}
-use Rattle.format.specs.Given.{Given, gives, refused}
+use Rattle.format.specs.Given.{gives, refused}
 use Rattle.number.specs.Numbers.{member, placeOf, magnitude, value, number, greatest}
 use Rattle.number.specs.Checks.{checked}
 use Rattle.number.proofs.Membership.{Member, members, member-made}
 use Rattle.number.proofs.Values.{written, place-there, canonical-within, member-canonical, member-highest, number-of, own-sign, number-magnitude, number-value, number-member}
 use Rattle.number.proofs.CheckLaws.{checked-passed}
 use Rattle.binary32.specs.Patterns.{signOf, fieldOf, fractionOf, finite, magnitudeRead, numberRead, patternRead, patternOf, patternWritten}
-use Rattle.binary32.proofs.Fields.{binary32-admitted, binary32-limits, significandOf, significand-canonical, magnitude-is, finite-field, number-read}
+use Rattle.binary32.proofs.Fields.{binary32-admitted, binary32-limits, significandOf, significand-canonical, magnitude-is, finite-field, number-read, binary-24}
 
 -- ---- what is read
 -- the pattern n is finite, and x is its number
@@ -39,7 +38,7 @@ read-made n h = unless-passed _ _ h
 
 -- the magnitude of a pattern is one of the wide format, and that of a finite one is at most the greatest
 read-wide : (n : ℕ) → Wide 2 24 (magnitudeRead n)
-read-wide n = rw (magnitude-is n) (canonical-wide (positional binary32-limits) (significand-canonical (fieldOf n) {fraction = fractionOf n} (omega arith)))
+read-wide n = rw (magnitude-is n) (canonical-wide binary-24 (significand-canonical (fieldOf n) {fraction = fractionOf n} (omega arith)))
 
 read-within : (n : ℕ) → finite n ≡ true → magnitudeRead n ≤ greatest binary32
 read-within n h =

@@ -1,17 +1,12 @@
 -- Reading is that of lib.Ieee, the kit's own account of IEEE 754.
-use Rattle.theory.proofs.Prelude.{ℕ, _<_, _^_, _-_, suc, zero, _%_, _/_, true, false, Bool, cond, _≢_, _∙_, ap, _≡_, sym, refl, subst, arith, eqb, ne-eqb, lt-leb}
+use Rattle.theory.proofs.Prelude.{ℕ, _<_, _^_, _-_, suc, zero, _%_, _/_, true, false, Bool, cond, _∙_, ap, _≡_, sym, refl, subst, arith, eqb, ne-eqb}
 use lib.Ieee as ieee
 use lib.Ieee.{Float, nan, inf, odd, ofBits, ofFields}
 use lib.Ieee.Exact.{HasValue, odd-sign}
 use lib.Ieee.Scale as scale
 use Rattle.format.specs.Published.{binary32}
-use Rattle.number.specs.declared.Number.{Number}
-use Rattle.format.specs.Given.{Given, gives, refused}
-use Rattle.number.specs.Numbers.{placeOf}
-use Rattle.number.proofs.Values.{written, place-there}
-use Rattle.binary32.specs.Patterns.{signOf, fieldOf, fractionOf, finite, magnitudeRead, patternRead}
-use Rattle.binary32.proofs.Fields.{significandOf, magnitude-is, number-read, finite-field, endless-field}
-use Rattle.binary32.proofs.RoundTrips.{reads, joined}
+use Rattle.binary32.specs.Patterns.{signOf, fieldOf, fractionOf, finite, magnitudeRead}
+use Rattle.binary32.proofs.Fields.{significandOf, magnitude-is, finite-field, endless-field}
 
 -- lib.Ieee takes a pattern apart as we do
 parts-standard : (n : ℕ) → ofBits ieee.binary32 n ≡ ofFields ieee.binary32 (signOf n) (fieldOf n) (fractionOf n)
@@ -55,22 +50,3 @@ finite-standard n = by (finite n) refl
     by false h =
         ap scale.finite (parts-standard n ∙ ap (λ (E : ℕ). ofFields ieee.binary32 (signOf n) E (fractionOf n)) (endless-field n h))
         ∙ endless (signOf n) (eqb (fractionOf n) 0)
-
--- ---- the float that a number of format 2 is
-unfoldable pub floatOf : Number → Float
-floatOf x = odd 24 (x .negative) (x .significand) (placeOf binary32 x) 149
-
-float-at : (s : Bool) (m k : ℕ) → (m ≡ 0 → s ≡ false) → floatOf (written binary32 s m k) ≡ odd 24 s m k 149
-unfolding floatOf
-float-at s zero k h = rw (h refl, place-there _ k)
-float-at s (suc m) k h = rw (ne-eqb (suc m) 0 (λ e. omega arith), place-there _ k)
-
--- every finite pattern but that of minus zero is the float of the number that we read
-pub float-standard : (n : ℕ) {x : Number} → n < 2 ^ 32 → n ≢ 2 ^ 31 → patternRead n ≡ gives x → ofBits ieee.binary32 n ≡ floatOf x
-float-standard n {x} h not-minus-zero r =
-    bits-standard n (reads n r .finite)
-    ∙ sym (float-at (signOf n) (significandOf (fieldOf n) (fractionOf n)) (fieldOf n - 1) plus)
-    ∙ ap floatOf (sym (number-read n) ∙ sym (reads n r .is))
-  where
-    plus : significandOf (fieldOf n) (fractionOf n) ≡ 0 → signOf n ≡ false
-    plus z = lt-leb (2 ^ 31) n (omega (arith, joined (fieldOf n) (fractionOf n), not-minus-zero))

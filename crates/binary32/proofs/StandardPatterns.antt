@@ -1,23 +1,17 @@
 -- The operations of lib.Ieee on finite patterns, written as lib.Ieee writes them, are our nearest sum, difference, product and
 -- quotient, written as we write them. An infinity there is refusal 5 here, and minus zero is written as zero.
-use Rattle.theory.proofs.Prelude.{ℕ, _≤_, _<_, _^_, _*_, true, false, cond, xor, _∙_, ap, _≡_, sym, refl, ℕ-discrete, arith, eqb, T, _+ℤ_, _-ℤ_, ne-eqb, eq-eqb}
+use Rattle.theory.proofs.Prelude.{ℕ, _<_, _^_, true, false, cond, _∙_, ap, _≡_, sym, refl, ℕ-discrete, arith, eqb, T, ne-eqb, eq-eqb}
 use lib.Ieee as ieee
-use lib.Ieee.{Float, nan, inf, fin, add, sub, mul, div, fits, ofBits, toBits}
-use lib.Ieee.Fits.{add-fits, sub-fits, mul-fits, div-fits}
+use lib.Ieee.{Float, nan, inf, fin, fits, ofBits, toBits}
 use lib.Ieee.Bits.{ofBits-toBits, toBits-lt}
 use lib.Ieee.Scale as scale
-use Rattle.format.specs.declared.Refusal.the-variants.{TooLarge, NotFinite}
 use Rattle.format.specs.Published.{binary32}
-use Rattle.number.specs.declared.Number.{Number}
 use Rattle.format.specs.Given.{Given, gives, refused}
-use Rattle.number.specs.Numbers.{magnitude, value}
 use Rattle.number.proofs.Values.{number-same}
 use Rattle.binary32.specs.Patterns.{signOf, finite, magnitudeRead, numberRead, patternRead, patternOf, answerWritten}
 use Rattle.binary32.proofs.RoundTrips.{read-made, pattern-back}
 use Rattle.binary32.proofs.Standard.{value-standard, finite-standard}
-use Rattle.binary32.proofs.StandardRound.{answered, answered-value, nearestOf}
-use Rattle.binary32.proofs.StandardSum.{nearestZ, ieee-sum, ieee-difference}
-use Rattle.binary32.proofs.StandardProduct.{ieee-product, ieee-quotient}
+use Rattle.binary32.proofs.StandardRound.{answered, answered-value}
 
 -- minus zero is written as zero
 abbrev pub plusZero : ℕ → ℕ
@@ -60,25 +54,3 @@ unfolding patterned answered
 patterned-written nan h = refl
 patterned-written (inf s) h = refl
 patterned-written (fin s m e) h = finite-written (fin s m e) h refl
-
--- ---- the four operations
-module _ (a b : ℕ) {x y : Number} (r : patternRead a ≡ gives x) (q : patternRead b ≡ gives y) where
-  abbrev f : Float
-  f = ofBits ieee.binary32 a
-
-  abbrev g : Float
-  g = ofBits ieee.binary32 b
-
-  pub pattern-sum : patterned (add ieee.binary32 f g) ≡ answerWritten (nearestZ (value binary32 x +ℤ value binary32 y))
-  pattern-sum = patterned-written (add ieee.binary32 f g) (add-fits ieee.binary32 f g) ∙ ap answerWritten (ieee-sum a b r q)
-
-  pub pattern-difference : patterned (sub ieee.binary32 f g) ≡ answerWritten (nearestZ (value binary32 x -ℤ value binary32 y))
-  pattern-difference = patterned-written (sub ieee.binary32 f g) (sub-fits ieee.binary32 f g) ∙ ap answerWritten (ieee-difference a b r q)
-
-  pub pattern-product : patterned (mul ieee.binary32 f g)
-      ≡ answerWritten (nearestOf (xor (x .negative) (y .negative)) (magnitude binary32 x * magnitude binary32 y) (2 ^ 149))
-  pattern-product = patterned-written (mul ieee.binary32 f g) (mul-fits ieee.binary32 f g) ∙ ap answerWritten (ieee-product a b r q)
-
-  pub pattern-quotient : 1 ≤ magnitude binary32 y → patterned (div ieee.binary32 f g)
-      ≡ answerWritten (nearestOf (xor (x .negative) (y .negative)) (magnitude binary32 x * 2 ^ 149) (magnitude binary32 y))
-  pattern-quotient h = patterned-written (div ieee.binary32 f g) (div-fits ieee.binary32 f g) ∙ ap answerWritten (ieee-quotient a b r q h)

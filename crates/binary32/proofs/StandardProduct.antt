@@ -1,16 +1,15 @@
 -- The product and the quotient of finite patterns to nearest, ties to even, are those of lib.Ieee.
-use Rattle.theory.proofs.Prelude.{ℕ, _≤_, _^_, _*_, suc, zero, true, false, Bool, cond, not, xor, _&&_, _∙_, ap, _≡_, sym, refl, ap₂, subst, mul-le-mul-right, mul-pos, zero-mul, arith, eqb, ne-eqb, eqb-true}
+use Rattle.theory.proofs.Prelude.{ℕ, _≤_, _^_, _*_, suc, zero, true, false, Bool, cond, not, xor, _&&_, _∙_, ap, _≡_, sym, refl, ap₂, mul-le-mul-right, mul-pos, zero-mul, arith, eqb, pos, ne-eqb, eqb-true}
 use native.Mathlib.Nat.{mul-zero}
 use lib.Ieee as ieee
 use lib.Ieee.{Float, nan, inf, fin, up, down, unlike, mul, div, ofBits}
 use lib.Ieee.Exact.{HasValue}
 use lib.Ieee.Fits.{up-pos, down-pos}
-use lib.Ieee.Scale as scale
 use Rattle.theory.specs.Signed.{signed}
 use Rattle.theory.proofs.Powers.{pow-pos}
 use Rattle.format.specs.Published.{binary32}
 use Rattle.number.specs.declared.Number.{Number}
-use Rattle.format.specs.Given.{Given, gives, refused}
+use Rattle.format.specs.Given.{gives}
 use Rattle.number.specs.Numbers.{magnitude}
 use Rattle.binary32.specs.Patterns.{signOf, magnitudeRead, patternRead}
 use Rattle.binary32.proofs.RoundTrips.{reads, read-magnitude, read-sign}
@@ -65,30 +64,11 @@ div-standard (fin r m e) (fin q (suc n) d) s t A B hB h k =
     quotient : Bool → Bool → Float
     quotient i j = ieee.round ieee.binary32 (unlike i j) (m * up e * down d) (suc n * up d * down e)
 
--- by zero the quotient is an infinity or NaN
-no-zero : (n u w v : ℕ) → 1 ≤ u → 1 ≤ w → suc n * u * w ≡ 0 * v → ⊥
-no-zero n u w v hu hw e = omega (arith, mul-pos (mul-pos {m = suc n} {n = u} (omega arith) hu) hw)
-
-by-zero : (x y : Float) (s t : Bool) (A : ℕ) → HasValue x s A (2 ^ 149) → HasValue y t 0 (2 ^ 149) → scale.finite (div ieee.binary32 x y) ≡ false
-unfolding div
-by-zero nan y s t A h k = absurd h
-by-zero (inf r) y s t A h k = absurd h
-by-zero (fin r m e) nan s t A h k = absurd k
-by-zero (fin r m e) (inf q) s t A h k = absurd k
-by-zero (fin r m e) (fin q (suc n) d) s t A h k = absurd (no-zero n (up d) (2 ^ 149) (down d) (up-pos d) (pow-pos {β = 2} (omega arith) 149) (k .1))
-by-zero (fin r m e) (fin q zero d) s t A h k = either (eqb m 0)
-  where
-    either : (c : Bool) → scale.finite (cond c nan (inf (unlike r q))) ≡ false
-    either true = refl
-    either false = refl
-
 -- ---- of patterns
 -- the sign of an operand that is 0 does not count, where the result is 0 too
-zero-sign : (s t : Bool) → signed s 0 ≡ signed t 0
-zero-sign true true = refl
-zero-sign true false = refl
-zero-sign false true = refl
-zero-sign false false = refl
+zero-sign : (s : Bool) → signed s 0 ≡ pos 0
+zero-sign true = refl
+zero-sign false = refl
 
 same-sign : (s t : Bool) (A B N : ℕ) → (A ≡ 0 → N ≡ 0) → (B ≡ 0 → N ≡ 0)
     → signed (unlike s t) N ≡ signed (xor (not (eqb A 0) && s) (not (eqb B 0) && t)) N
@@ -96,7 +76,7 @@ unfolding xor
 same-sign s t A B N a b = by (eqb A 0) (eqb B 0) refl refl
   where
     none : (i j : Bool) → N ≡ 0 → signed i N ≡ signed j N
-    none i j e = rw e (zero-sign i j)
+    none i j e = rw e (zero-sign i ∙ sym (zero-sign j))
 
     by : (p q : Bool) → eqb A 0 ≡ p → eqb B 0 ≡ q → signed (unlike s t) N ≡ signed (xor (not p && s) (not q && t)) N
     by true q e f = none (unlike s t) (xor (not true && s) (not q && t)) (a (eqb-true A 0 e))
@@ -130,9 +110,3 @@ module _ (a b : ℕ) {x y : Number} (r : patternRead a ≡ gives x) (q : pattern
       (value-standard a (reads a r .finite)) (value-standard b (reads b q .finite))
       ∙ signs-read (magnitudeRead a * 2 ^ 149) positive (λ e. rw e (zero-mul (2 ^ 149))) (λ e. absurd (omega arith))
       ∙ ap₂ (λ (m n : ℕ). nearestOf (xor (x .negative) (y .negative)) (m * 2 ^ 149) n) (sym (read-magnitude a r)) (sym (read-magnitude b q))
-
-  -- by zero there is no number there either
-  pub ieee-by-zero : magnitude binary32 y ≡ 0 → scale.finite (div ieee.binary32 (ofBits ieee.binary32 a) (ofBits ieee.binary32 b)) ≡ false
-  ieee-by-zero h =
-      by-zero (ofBits ieee.binary32 a) (ofBits ieee.binary32 b) (signOf a) (signOf b) (magnitudeRead a) (value-standard a (reads a r .finite))
-      (subst (λ (n : ℕ). HasValue (ofBits ieee.binary32 b) (signOf b) n (2 ^ 149)) (sym (read-magnitude b q) ∙ h) (value-standard b (reads b q .finite)))

@@ -1,6 +1,6 @@
 -- The rounding of lib.Ieee, the kit's own account of IEEE 754, is the theory's to nearest with ties to even in format 2: an infinity
 -- where the rounded magnitude exceeds the greatest number, and otherwise the float that has its value.
-use Rattle.theory.proofs.Prelude.{ℕ, _≤_, _<_, _+_, _^_, _*_, _-_, suc, _%_, _/_, true, false, Bool, cond, not, _≢_, _∙_, ap, _≡_, sym, refl, ap₂, subst, ℕ-discrete, mul-pos, le-antisymm, le-of-suc-le-suc, lt-of-not-le, mul-div-cancel, arith, eqb, leb, T, ℤ, natAbs, ne-eqb, eq-eqb, leb-true, leb-false, le-ltb, ltb-true}
+use Rattle.theory.proofs.Prelude.{ℕ, _≤_, _<_, _+_, _^_, _*_, _-_, suc, _%_, _/_, true, false, Bool, cond, not, _≢_, _∙_, ap, _≡_, sym, refl, subst, ℕ-discrete, mul-pos, le-antisymm, le-of-suc-le-suc, lt-of-not-le, mul-div-cancel, arith, eqb, leb, T, ℤ, ne-eqb, eq-eqb, leb-true, leb-false, le-ltb, ltb-true}
 use Prim.Native.Nat.{compare, Ordering, Ordering·lt, Ordering·eq, Ordering·gt}
 use native.Mathlib.Nat.{lt-of-le-of-lt, not-le-of-lt}
 use lib.Dec.{isLe, isEq, leb→le, nleb→lt, eqb→eq}
@@ -11,8 +11,7 @@ use lib.Ieee.Digits.{size-lt, size-le}
 use lib.Ieee.Exact.{HasValue, units-val}
 use lib.Ieee.Fits.{round-is, down-pos}
 use lib.Ieee.Nearest.{closest, closest-same, div-same}
-use Rattle.theory.specs.Place.{Positional, place, step}
-use Rattle.theory.specs.Tests.{unless}
+use Rattle.theory.specs.Place.{place, step}
 use Rattle.theory.specs.Wide.{Wide}
 use Rattle.theory.specs.Round.{chosen, takesUpper, round}
 use Rattle.theory.specs.declared.Direction.the-variants.{NearestEven}
@@ -24,16 +23,13 @@ use Rattle.theory.proofs.Place.{step-pos, place-le, place-fits}
 use Rattle.theory.proofs.Canonical.{canonical-of, canonical-value}
 use Rattle.theory.proofs.Round.{Located, at-lower, under, middle, over, location-found, round-wide}
 use Rattle.theory.proofs.Division.{divided, round-divided}
-use Rattle.theory.proofs.Integers.{size-signed}
 use Rattle.theory.proofs.Signed.{roundZ-signed}
-use Rattle.format.specs.declared.Refusal.the-variants.{TooLarge, NotFinite}
 use Rattle.format.specs.Published.{binary32}
-use Rattle.format.proofs.Formats.{positional}
 use Rattle.number.specs.declared.Number.{Number}
 use Rattle.format.specs.Given.{Given, gives, refused}
 use Rattle.number.specs.Numbers.{number, greatest, delivered}
-use Rattle.number.proofs.Values.{canonical-within, number-same}
-use Rattle.binary32.proofs.Fields.{binary32-limits}
+use Rattle.number.proofs.Values.{canonical-within, delivered-same}
+use Rattle.binary32.proofs.Fields.{binary32-limits, binary-24}
 
 -- the answer that a float of lib.Ieee stands for: zero is plus, and an infinity is a result too large
 unfoldable pub answered : Float → Given Number
@@ -56,13 +52,10 @@ answered-value (inf t) s n h = absurd h
 answered-value (fin t m e) s n h = rw (h .0, h .1, mul-div-cancel n (down-pos e))
 
 -- ---- the place by the number of binary digits
-two : Positional 2 24
-two = positional binary32-limits
-
 size-place : (n : ℕ) → size n - 24 ≡ place 2 24 n
 size-place n =
-    le-antisymm (omega (arith, size-le n (24 + place 2 24 n) (place-fits two n)))
-    (place-le two (omega (arith, size-lt n, pow-mono {β = 2} (omega arith) {i = size n} {j = 24 + (size n - 24)} (omega arith))))
+    le-antisymm (omega (arith, size-le n (24 + place 2 24 n) (place-fits binary-24 n)))
+    (place-le binary-24 (omega (arith, size-lt n, pow-mono {β = 2} (omega arith) {i = size n} {j = 24 + (size n - 24)} (omega arith))))
 
 -- ---- a fraction to the nearest whole number, a tie to the even one
 data Compared (a b : ℕ) : Ordering → Type 0 where
@@ -111,8 +104,8 @@ closest-round : (negative : Bool) (N : ℕ) {D : ℕ} → 1 ≤ D
 closest-round negative N {D} hD =
     let w = step 2 24 (N / D) in
     let u : ℕ = D * w in
-    steps-nearest negative (N / u) (N % u) u w (mul-pos hD (step-pos two (N / D))) (compared (N % u * 2) u) (location-found (N % u) u 0 1)
-    ∙ sym (round-divided two (divided two N hD) NearestEven negative)
+    steps-nearest negative (N / u) (N % u) u w (mul-pos hD (step-pos binary-24 (N / D))) (compared (N % u * 2) u) (location-found (N % u) u 0 1)
+    ∙ sym (round-divided binary-24 (divided binary-24 N hD) NearestEven negative)
 
 -- ---- the greatest number is the greatest of the wide format below 2 ^ 128, which is 2 ^ 277 units
 greatest-under : {n : ℕ} → n ≤ greatest binary32 → n < 2 ^ 277
@@ -124,7 +117,7 @@ unfolding step
 greatest-least {n} w h = le-of-suc-le-suc (lt-of-not-le (λ (l : n < 2 ^ 277). not-le-of-lt h (within l)))
   where
     within : n < 2 ^ 277 → n ≤ greatest binary32
-    within l = subst (λ (v : ℕ). v ≤ greatest binary32) (canonical-value two w) (canonical-within binary32-limits (canonical-of two n) (place-le two l))
+    within l = subst (λ (v : ℕ). v ≤ greatest binary32) (canonical-value binary-24 w) (canonical-within binary32-limits (canonical-of binary-24 n) (place-le binary-24 l))
 
 -- ---- num / den is N / D units of 2 ^ -149
 pub record Exact (num den N D : ℕ) : Type 0 where
@@ -174,7 +167,7 @@ module _ (s : Bool) {num den N D : ℕ} (e : Exact num den N D) where
   round-infinite h =
       round-units
       ∙ ap (λ (t : Bool). cond t (odd 25 s q k 149) (inf s))
-      (le-ltb (q * 2 ^ k) (2 ^ 277) (subst (λ (n : ℕ). 2 ^ 277 ≤ n) (sym rounded) (greatest-least (round-wide two N (e .divisor′) NearestEven s) h)))
+      (le-ltb (q * 2 ^ k) (2 ^ 277) (subst (λ (n : ℕ). 2 ^ 277 ≤ n) (sym rounded) (greatest-least (round-wide binary-24 N (e .divisor′) NearestEven s) h)))
 
   pub round-standard : answered (ieee.round ieee.binary32 s num den) ≡ nearestOf s N D
   unfolding delivered answered
@@ -189,13 +182,7 @@ module _ (s : Bool) {num den N D : ℕ} (e : Exact num den N D) where
           ∙ sym (unless-failed (refused 5) (gives (number binary32 s (nearestRound s N D))) l)
 
 -- ---- the answer depends on the exact value alone, and not on a sign of zero
-delivered-same : (s t : Bool) (m n : ℕ) → signed s m ≡ signed t n → delivered binary32 s m ≡ delivered binary32 t n
-unfolding delivered
-delivered-same s t m n e =
-    ap₂ (λ (r : ℕ) (x : Number). unless (leb r (greatest binary32)) (refused 5) (gives x))
-    (sym (size-signed s m) ∙ ap natAbs e ∙ size-signed t n) (number-same binary32 s t m n e)
-
 pub nearest-same : (s t : Bool) (m n : ℕ) {D : ℕ} → 1 ≤ D → signed s m ≡ signed t n → nearestOf s m D ≡ nearestOf t n D
 nearest-same s t m n {D} hD e =
-    delivered-same s t (nearestRound s m D) (nearestRound t n D)
-    (sym (roundZ-signed two hD NearestEven s m) ∙ ap (λ (v : ℤ). roundZ 2 24 NearestEven v D) e ∙ roundZ-signed two hD NearestEven t n)
+    delivered-same binary32 s t (nearestRound s m D) (nearestRound t n D)
+    (sym (roundZ-signed binary-24 hD NearestEven s m) ∙ ap (λ (v : ℤ). roundZ 2 24 NearestEven v D) e ∙ roundZ-signed binary-24 hD NearestEven t n)

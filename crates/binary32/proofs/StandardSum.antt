@@ -8,7 +8,7 @@ use Rattle.theory.specs.Signed.{signed, isNegative}
 use Rattle.theory.proofs.Integers.{own-sign, add-agree, add-differ, negate-signed}
 use Rattle.format.specs.Published.{binary32}
 use Rattle.number.specs.declared.Number.{Number}
-use Rattle.format.specs.Given.{Given, gives, refused}
+use Rattle.format.specs.Given.{Given, gives}
 use Rattle.number.specs.Numbers.{value}
 use Rattle.binary32.specs.Patterns.{signOf, magnitudeRead, patternRead}
 use Rattle.binary32.proofs.RoundTrips.{reads, read-value}

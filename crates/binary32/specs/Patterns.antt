@@ -77,3 +77,7 @@ patternGiven (pattern.Refused why) = refused (refusalNumber why)
 -- a whole number that orders the patterns by their values: 2 ^ 31 more than the pattern as a sign and a number of 31 bits
 abbrev pub keyOf : ℕ → ℕ
 keyOf n = cond (signOf n) (2 ^ 31 - n % 2 ^ 31) (2 ^ 31 + n % 2 ^ 31)
+
+-- the pattern with a key that is not 0; that of 2 ^ 31 is plus zero
+abbrev pub patternOfKey : ℕ → ℕ
+patternOfKey k = cond (leb (2 ^ 31) k) (k - 2 ^ 31) (2 ^ 32 - k)

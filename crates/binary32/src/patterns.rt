@@ -1,5 +1,6 @@
 // A pattern read as a number of published format 2, and a number written as a pattern.
 use crate::PatternAnswer;
+use crate::finite::is_finite;
 use crate::prepared::prepared_binary32;
 use format::Preparation;
 use format::Refusal;
@@ -26,7 +27,7 @@ pub fn field_of(pattern: u32) -> u32
 }
 
 // The place that a field stands for: 0 and 1 both stand for the lowest.
-fn place_of(field: u32) -> u32
+pub fn place_of(field: u32) -> u32
     ensures { λ r. ⌜ r ≡ field - 1 ⌝ }
 {
     if field == 0 { 0 } else { field - 1 }
@@ -56,7 +57,7 @@ pub fn read_finite(pattern: u32) -> Number
 pub fn read_pattern(pattern: u32) -> NumberAnswer
     ensures { λ r. ⌜ numberGiven r ≡ patternRead pattern ⌝ }
 {
-    if field_of(pattern) == 255 {
+    if !is_finite(pattern) {
         return NumberAnswer::Refused(Refusal::NotFinite);
     }
     NumberAnswer::Value(read_finite(pattern))

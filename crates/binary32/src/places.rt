@@ -1,6 +1,9 @@
-// The places and the neighbours of a finite pattern, straight from the pattern: patterns of one sign are in the order of their
-// magnitudes, so that neighbours differ by one.
+// The places and the neighbours of a finite pattern, straight from the pattern: keys are in the order of the values, so that
+// those of neighbours differ by one.
 use crate::PatternAnswer;
+use crate::order::key;
+use crate::order::pattern_of_key;
+use crate::patterns::place_of;
 use crate::prepared::prepared_binary32;
 use format::Refusal;
 use units::powers_of_base::leading_power;
@@ -43,50 +46,34 @@ fn ulp(pattern: u32) -> PatternAnswer
     if size == 0 {
         return PatternAnswer::Written(0);
     }
-    if field < 2 {
-        return PatternAnswer::Written(1);
-    }
     if field < 24 {
-        return PatternAnswer::Written(format::powers::power(2, field - 1));
+        return PatternAnswer::Written(format::powers::power(2, place_of(field)));
     }
     PatternAnswer::Written((field - 23) * 8388608)
 }
 
-// The predecessor: one more in magnitude from zero down, one less above it.
+// The predecessor: the key is one less.
 fn predecessor(pattern: u32) -> PatternAnswer
     requires { ⌜ finite pattern ≡ true ⌝ }
     ensures { λ r. ⌜ patternGiven r ≡ answerWritten (predecessorOf binary32 (numberRead pattern)) ⌝ }
 {
-    if pattern == 4286578687 {
+    let k = key(pattern);
+    if k == 8388609 {
         return PatternAnswer::Refused(Refusal::TooLarge);
     }
-    if 2147483648 <= pattern {
-        return PatternAnswer::Written(pattern + 1);
-    }
-    if pattern == 0 {
-        return PatternAnswer::Written(2147483649);
-    }
-    PatternAnswer::Written(pattern - 1)
+    PatternAnswer::Written(pattern_of_key(k - 1))
 }
 
-// The successor. Zero is 0, also above 80000001 (hexadecimal).
+// The successor: the key is one more.
 fn successor(pattern: u32) -> PatternAnswer
     requires { ⌜ finite pattern ≡ true ⌝ }
     ensures { λ r. ⌜ patternGiven r ≡ answerWritten (successorOf binary32 (numberRead pattern)) ⌝ }
 {
-    if pattern == 2139095039 {
+    let k = key(pattern);
+    if k == 4286578687 {
         return PatternAnswer::Refused(Refusal::TooLarge);
     }
-    if pattern < 2147483648 {
-        return PatternAnswer::Written(pattern + 1);
-    }
-    if pattern == 2147483648 {
-        return PatternAnswer::Written(1);
-    }
-    if pattern == 2147483649 {
-        return PatternAnswer::Written(0);
-    }
-    PatternAnswer::Written(pattern - 1)
+    PatternAnswer::Written(pattern_of_key(k + 1))
 }
 
 // Both places and both neighbours.

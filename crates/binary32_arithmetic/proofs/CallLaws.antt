@@ -12,13 +12,13 @@ use Rattle.number.specs.declared.Number.{Number}
 use Rattle.number.specs.Numbers.{member}
 use Rattle.number.specs.Checks as checks
 use Rattle.arithmetic.specs.Operations.{summed, subtracted, multiplied, divided}
+use Rattle.arithmetic.proofs.Results.{sum-member, difference-member, product-member, quotient-member}
 use Rattle.binary32.specs.Patterns.{finite, patternRead, answerWritten}
-use Rattle.binary32.proofs.Fields.{binary32-admitted}
+use Rattle.binary32.proofs.Fields.{binary32-admitted, binary32-limits}
 use Rattle.binary32.proofs.RoundTrips.{Reads, reads, read-member, written-read}
 use Rattle.binary32_arithmetic.specs.declared.Operation.{Operation}
 use Rattle.binary32_arithmetic.specs.declared.Operation.the-variants.{Sum, Difference, Product, Quotient}
 use Rattle.binary32_arithmetic.specs.Calls.{roundedBy, onPatterns, patternCall}
-use Rattle.binary32_arithmetic.proofs.Results.{result-member}
 
 -- the call on numbers of format 2
 abbrev pub numberCall : Operation → (d : ℕ) (x y : Number) → Given Number
@@ -39,6 +39,13 @@ checked Sum d x y = refl
 checked Difference d x y = refl
 checked Product d x y = refl
 checked Quotient d x y = refl
+
+-- what the operations give is in the format
+pub result-member : (operation : Operation) (d : Direction) (a b : Number) {x : Number} → roundedBy operation binary32 d a b ≡ gives x → member binary32 x ≡ true
+result-member Sum d a b e = sum-member binary32-limits d a b e
+result-member Difference d a b e = difference-member binary32-limits d a b e
+result-member Product d a b e = product-member binary32-limits d a b e
+result-member Quotient d a b e = quotient-member binary32-limits d a b e
 
 -- a result, written and read
 back : (operation : Operation) (t : Direction) (x y : Number) {r : Given Number} → roundedBy operation binary32 t x y ≡ r → readBack (answerWritten r) ≡ r

@@ -1,6 +1,6 @@
 -- Two magnitudes of at most half the greatest number add up to one that is not too large, in every direction.
 use Rattle.theory.proofs.Prelude.{ℕ, _≤_, _<_, _+_, _^_, _*_, _-_, _%_, true, false, Bool, _∙_, ap, _≡_, sym, refl, mul-le-mul-left, le-trans, le-of-eq, arith, ℤ, _+ℤ_, natAbs}
-use Rattle.theory.specs.Tests.{_and_, unless}
+use Rattle.theory.specs.Tests.{_and_}
 use Rattle.theory.specs.declared.Direction.{Direction}
 use Rattle.theory.specs.Signed.{isNegative, roundZ}
 use Rattle.theory.proofs.Tests.{and-made, unless-passed}

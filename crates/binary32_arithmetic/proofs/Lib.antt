@@ -1,6 +1,4 @@
 -- Laws of the calls on patterns.
-pub mod Reading
-pub mod Results
 pub mod Halves
 pub mod Passes
 pub mod CallLaws

@@ -1,65 +1,62 @@
 -- What a sum of slices answers and writes, in the words of document 01: the lengths (11), the direction (2), then 9 and 5 entry by
 -- entry, the lower index first; and each entry that is written is the sum of the two entries that it was made of.
-use Rattle.theory.proofs.Prelude.{ℕ, _≤_, _<_, true, false, Bool, [], List, inl, inr, _⊎_, _∙_, ap, _≡_, sym, refl, decLe, arith, eqb, leb, ℤ, _+ℤ_, natAbs, length, getD, length-map, eq-eqb, leb-true, leb-false, eqb-true}
+use Rattle.theory.proofs.Prelude.{ℕ, _≤_, _<_, true, false, Bool, [], List, inl, inr, _⊎_, _∙_, ap, _≡_, sym, refl, decLe, arith, eqb, leb, ℤ, _+ℤ_, length, getD, length-map, eq-eqb, leb-true, leb-false, eqb-true}
 use lib.ListN.{List·getD-map, List·getD-eq-default}
 use Rattle.theory.specs.Tests.{_and_, unless}
 use Rattle.theory.specs.Lists.{firstWhere}
-use Rattle.theory.specs.Round.{round}
 use Rattle.theory.specs.declared.Direction.{Direction}
-use Rattle.theory.specs.Signed.{isNegative}
 use Rattle.theory.proofs.Tests.{never, and-left, and-right, and-made}
 use Rattle.theory.proofs.Lists.{first-before, first-passes}
 use Rattle.format.specs.Given.{Given, gives, refused, refusedAt}
-use Rattle.format.proofs.GivenLaws.{gives-not-refused-at}
+use Rattle.format.proofs.GivenLaws.{gives-not-refused, gives-not-refused-at}
 use Rattle.format.specs.Directions.{isDirection, direction}
 use Rattle.format.specs.Published.{binary32}
-use Rattle.number.specs.Numbers.{value, greatest, number, delivered}
-use Rattle.arithmetic.specs.Operations.{rounded, roundedZ, roundedSum}
+use Rattle.number.specs.Numbers.{value}
+use Rattle.number.specs.declared.Number.{Number}
+use Rattle.arithmetic.specs.Operations.{roundedZ}
+use Rattle.arithmetic.specs.Outcomes.{Outcome, given, too-large}
+use Rattle.arithmetic.proofs.Outcome.{roundedZ-outcome}
+use Rattle.binary32.proofs.Fields.{binary32-limits}
 use Rattle.binary32.specs.Patterns.{finite, numberRead, answerWritten}
 use Rattle.binary32_arithmetic.specs.declared.Operation.the-variants.{Sum}
 use Rattle.binary32_arithmetic.specs.Calls.{onPatterns}
-use Rattle.binary32_arithmetic.specs.Slices.{isRefused, answerAt, written, entries, firstRefused, sums, slicesAnswer, entryOf, Sums, FirstRefused, SameLengths, Ends, lengths-differ, no-direction, refused-entry, all-written}
+use Rattle.binary32_arithmetic.specs.Slices.{isRefused, answerAt, written, entries, firstRefused, sums, slicesAnswer, entryOf, Sums, SameLengths, Ends, lengths-differ, no-direction, refused-entry, all-written}
 use Rattle.binary32_arithmetic.proofs.Passes.{entries-length, entry-at}
 
 -- ---- the entries
--- an entry is refused by 9 or by 5
+-- it is written, or refused by 9 or by 5, without an index: the slice's answer adds that
+data Entry : Given ℕ → Type 0 where
+  summed : (n : ℕ) → Entry (gives n)
+  not-finite : Entry (refused 9)
+  above-greatest : Entry (refused 5)
+
+entry-ends : (d : Direction) (x y : ℕ) → Entry (onPatterns Sum d x y)
+unfolding onPatterns unless
+entry-ends d x y = by-finite (finite x and finite y)
+  where
+    v : ℤ
+    v = value binary32 (numberRead x) +ℤ value binary32 (numberRead y)
+
+    by-outcome : {r : Given Number} → Outcome binary32 d v 1 r → Entry (answerWritten r)
+    by-outcome (given g) = summed _
+    by-outcome (too-large l) = above-greatest
+
+    by-finite : (t : Bool) → Entry (unless t (refused 9) (answerWritten (roundedZ binary32 d v)))
+    by-finite true = by-outcome (roundedZ-outcome binary32-limits d v)
+    by-finite false = not-finite
+
 pub entry-refusals : (d : Direction) (x y : ℕ) {k : ℕ} → onPatterns Sum d x y ≡ refused k → (k ≡ 9) ⊎ (k ≡ 5)
-unfolding onPatterns roundedZ rounded delivered unless
-entry-refusals d x y {k} h = finite-or (finite x and finite y) h
+entry-refusals d x y {k} h = by (entry-ends d x y) h
   where
-    v : ℤ
-    v = value binary32 (numberRead x) +ℤ value binary32 (numberRead y)
+    by : {g : Given ℕ} → Entry g → g ≡ refused k → (k ≡ 9) ⊎ (k ≡ 5)
+    by (summed n) e = absurd (gives-not-refused e)
+    by not-finite e = inl cc
+    by above-greatest e = inr cc
 
-    n : ℕ
-    n = round 2 24 d (isNegative v) (natAbs v) 1
-
-    large-or : (t : Bool) → answerWritten (unless t (refused 5) (gives (number binary32 (isNegative v) n))) ≡ refused k → k ≡ 5
-    large-or true e = absurd (let z : _≡_ {A = ℕ} 0 1 = cc in omega arith)
-    large-or false e = cc
-
-    finite-or : (t : Bool) → unless t (refused 9) (answerWritten (roundedSum binary32 d (numberRead x) (numberRead y))) ≡ refused k
-        → (k ≡ 9) ⊎ (k ≡ 5)
-    finite-or true e = inr (large-or (leb n (greatest binary32)) e)
-    finite-or false e = inl cc
-
--- without an index: the slice's answer adds that
-pub never-at : (d : Direction) (x y : ℕ) {k i : ℕ} → onPatterns Sum d x y ≡ refusedAt k i → ⊥
-unfolding onPatterns roundedZ rounded delivered unless
-never-at d x y {k} {i} h = finite-or (finite x and finite y) h
-  where
-    v : ℤ
-    v = value binary32 (numberRead x) +ℤ value binary32 (numberRead y)
-
-    n : ℕ
-    n = round 2 24 d (isNegative v) (natAbs v) 1
-
-    large-or : (t : Bool) → answerWritten (unless t (refused 5) (gives (number binary32 (isNegative v) n))) ≡ refusedAt k i → ⊥
-    large-or true e = gives-not-refused-at e
-    large-or false e = let z : _≡_ {A = ℕ} 0 1 = cc in omega arith
-
-    finite-or : (t : Bool) → unless t (refused 9) (answerWritten (roundedSum binary32 d (numberRead x) (numberRead y))) ≡ refusedAt k i → ⊥
-    finite-or true e = large-or (leb n (greatest binary32)) e
-    finite-or false e = let z : _≡_ {A = ℕ} 0 1 = cc in omega arith
+never-at : {g : Given ℕ} {k i : ℕ} → Entry g → g ≡ refusedAt k i → ⊥
+never-at (summed n) e = gives-not-refused-at e
+never-at not-finite e = let z : _≡_ {A = ℕ} 0 1 = cc in omega arith
+never-at above-greatest e = let z : _≡_ {A = ℕ} 0 1 = cc in omega arith
 
 -- there are as many sums as entries
 pub sums-length : (d : Direction) (a b : List ℕ) → length a ≡ length b → length (sums d a b) ≡ length a
@@ -95,7 +92,7 @@ slices-end d a b out = by-lengths (eqb (length a) (length b) and eqb (length a) 
         → Ends d a b out (answerAt p first)
     by-entry l h m (gives n) e =
         absurd (never (sym (first-passes isRefused (gives 0) (entries (direction d) a b) (omega (arith, entries-length (direction d) a b (l .0)))) ∙ ap isRefused e))
-    by-entry l h m (refusedAt k i) e = absurd (never-at (direction d) (getD a first 0) (getD b first 0) (sym (entry-at (direction d) a b (l .0) first m) ∙ e))
+    by-entry l h m (refusedAt k i) e = absurd (never-at (entry-ends (direction d) (getD a first 0) (getD b first 0)) (sym (entry-at (direction d) a b (l .0) first m) ∙ e))
     by-entry l h m (refused k) e =
         refused-entry l h
         (record {

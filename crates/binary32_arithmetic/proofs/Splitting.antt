@@ -1,26 +1,21 @@
 -- Sums to nearest without an error, and the order of two sums by their parts.
-use Rattle.theory.proofs.Prelude.{ℕ, _≤_, _+_, _^_, _%_, true, false, Bool, cond, not, inl, _∙_, ap, _≡_, sym, refl, subst, arith, ℤ, pos, _+ℤ_, natAbs, _-ℤ_, negℤ, _*ℤ_, leZ}
+use Rattle.theory.proofs.Prelude.{ℕ, _≤_, _+_, _^_, _%_, true, false, Bool, cond, not, inl, _∙_, ap, _≡_, refl, subst, arith, ℤ, pos, _+ℤ_, natAbs, _-ℤ_, negℤ, _*ℤ_, +ℤ-comm, leZ}
 use Rattle.theory.specs.declared.Direction.the-variants.{NearestEven}
 use Rattle.theory.specs.Signed.{roundZ}
-use Rattle.theory.proofs.Integers.{above, below, sum-parts, diff-parts, neg-above, neg-below, negate-signed, size-signed, le-parts, parts-eq, parts-scale-le, scale-above, scale-below}
+use Rattle.theory.proofs.Integers.{above, below, sum-parts, diff-parts, neg-above, neg-below, size-signed, le-parts, parts-eq, parts-scale-le, scale-above, scale-below}
 use Rattle.theory.proofs.Round.{to-even}
 use Rattle.theory.proofs.Signed.{roundZ-mono}
 use Rattle.theory.proofs.FastTwoSum.{WideTriple, nearest-exact, rounded-triple}
 use Rattle.theory.proofs.Tests.{denied, granted}
 use Rattle.format.proofs.Signed.{Upto, le-true, le-false}
 use Rattle.rounding.specs.declared.Wide.{Wide}
-use Rattle.wide.specs.Operand.{sizeOf, valueOf}
+use Rattle.wide.specs.Operand.{valueOf}
 use Rattle.binary32.specs.Patterns.{signOf, magnitudeRead, patternValue}
+use Rattle.binary32.proofs.Fields.{binary-24}
 use Rattle.binary32.proofs.PatternOrder.{magnitude-most}
 use Rattle.binary32_arithmetic.specs.declared.Parts.{Parts}
-use Rattle.binary32_arithmetic.specs.Exact.{Placed, SumOf, turned, zeroWide, Splits, splitUpto}
-use Rattle.binary32_arithmetic.proofs.ExactSums.{binary-24, value-wide, placed-more}
-
-turned-here : {k : ℕ} (c : Wide) → Placed k c → {m : Wide} → m ≡ turned c → Placed k m
-turned-here c h e = rw e (record { canonical = h .canonical; place-most = h .place-most })
-
-minus : (c : Wide) {m : Wide} → m ≡ turned c → valueOf 2 m ≡ negℤ (valueOf 2 c)
-minus c e = rw e (sym (negate-signed (c .negative) (sizeOf 2 c)))
+use Rattle.binary32_arithmetic.specs.Exact.{Placed, SumOf, turned, Splits, splitUpto}
+use Rattle.binary32_arithmetic.proofs.ExactSums.{value-wide, placed-more, turned-is, turned-placed}
 
 less : (u v : ℤ) {w : ℤ} → w ≡ negℤ v → u +ℤ w ≡ u -ℤ v
 less u v e =
@@ -33,7 +28,7 @@ module _ (a b : Wide) (ha : Placed 253 a) (hb : Placed 253 b) {x : Wide} (ex : S
 
   module _ {m : Wide} (em : m ≡ turned a) where
     m-placed : Placed 254 m
-    m-placed = turned-here a (placed-more 254 (omega arith) ha) em
+    m-placed = turned-placed 254 (omega arith) ha em
 
     pub second-placed : Placed 300 x × Placed 300 m
     second-placed = (placed-more 300 (omega arith) x-placed, placed-more 300 (omega arith) m-placed)
@@ -44,7 +39,7 @@ module _ (a b : Wide) (ha : Placed 253 a) (hb : Placed 253 b) {x : Wide} (ex : S
 
       module _ {w : Wide} (ew : w ≡ turned z) where
         w-placed : Placed 255 w
-        w-placed = turned-here z z-placed ew
+        w-placed = turned-placed 255 (omega arith) z-placed ew
 
         pub third-placed : Placed 300 b × Placed 300 w
         third-placed = (placed-more 300 (omega arith) hb, placed-more 300 (omega arith) w-placed)
@@ -53,30 +48,25 @@ module _ (a b : Wide) (ha : Placed 253 a) (hb : Placed 253 b) {x : Wide} (ex : S
           y-placed : Placed 256 y
           y-placed = ey .placed 255 (placed-more 255 (omega arith) hb) w-placed
 
-          x-is : valueOf 2 x ≡ roundZ 2 24 NearestEven (valueOf 2 a +ℤ valueOf 2 b) 1
-          x-is = ex .value
-
           z-is : valueOf 2 z ≡ roundZ 2 24 NearestEven (valueOf 2 x -ℤ valueOf 2 a) 1
           z-is =
-              ez .value
-              ∙ ap (λ (v : ℤ). roundZ 2 24 NearestEven v 1) (less (valueOf 2 x) (valueOf 2 a) (minus a em))
+              ez .value ∙ ap (λ (v : ℤ). roundZ 2 24 NearestEven v 1) (less (valueOf 2 x) (valueOf 2 a) (turned-is a em))
 
           y-is : valueOf 2 y ≡ roundZ 2 24 NearestEven (valueOf 2 b -ℤ valueOf 2 z) 1
           y-is =
-              ey .value
-              ∙ ap (λ (v : ℤ). roundZ 2 24 NearestEven v 1) (less (valueOf 2 b) (valueOf 2 z) (minus z ew))
+              ey .value ∙ ap (λ (v : ℤ). roundZ 2 24 NearestEven v 1) (less (valueOf 2 b) (valueOf 2 z) (turned-is z ew))
 
           triple : WideTriple 24 (valueOf 2 a) (valueOf 2 b) (valueOf 2 x) (valueOf 2 z) (valueOf 2 y)
           triple =
-              rounded-triple binary-24 NearestEven NearestEven NearestEven (valueOf 2 a) (valueOf 2 b) (value-wide ha) (value-wide hb) order x-is z-is y-is
+              rounded-triple binary-24 NearestEven NearestEven NearestEven (valueOf 2 a) (valueOf 2 b) (value-wide ha) (value-wide hb) order (ex .value) z-is y-is
 
           pub split-made : Splits (valueOf 2 a +ℤ valueOf 2 b) (record { high = x; low = y })
           split-made =
               record {
                 high-placed = placed-more 260 (omega arith) x-placed;
                 low-placed = placed-more 260 (omega arith) y-placed;
-                high-is = x-is;
-                exact = nearest-exact binary-24 triple to-even x-is;
+                high-is = ex .value;
+                exact = nearest-exact binary-24 triple to-even (ex .value);
               }
 
 -- ---- from patterns
@@ -89,19 +79,20 @@ pub split-told : {u v u′ v′ : ℤ} {r : Parts} → u ≡ u′ → v ≡ v′
 split-told e f s = rw (← e, ← f) s
 
 pub split-turned : {u v u′ v′ : ℤ} {r : Parts} → u ≡ u′ → v ≡ v′ → Splits (u +ℤ v) r → Splits (v′ +ℤ u′) r
-split-turned {u} {v} {u′} {v′} {r} e f s =
-    rw (← e, ← f) (subst (λ (N : ℤ). Splits N r) (parts-eq (u +ℤ v) (v +ℤ u) (omega (arith, sum-parts u v, sum-parts v u))) s)
+split-turned {u} {v} {r = r} e f s = split-told f e (subst (λ (N : ℤ). Splits N r) (+ℤ-comm u v) s)
 
 -- ---- the order of two numbers
-pub zero-placed : {z : Wide} → z ≡ zeroWide → Placed 260 z
-zero-placed e = rw e (record { canonical = record { small = omega arith; normal = inl refl }; place-most = omega arith })
+abbrev zeroWide : Wide
+zeroWide = record { negative = false; significand = 0; place = 0 }
+
+pub zero-placed : Placed 260 zeroWide
+zero-placed = record { canonical = record { small = omega arith; normal = inl refl }; place-most = omega arith }
 
 plus-zero : (v : ℤ) → v +ℤ pos 0 ≡ v
 plus-zero v = parts-eq (v +ℤ pos 0) v (omega (arith, sum-parts v (pos 0)))
 
-pub upto-told : (a b : Wide) {z : Wide} {t : Bool} → z ≡ zeroWide → t ≡ leZ (valueOf 2 a) (valueOf 2 b +ℤ valueOf 2 z) → t ≡ leZ (valueOf 2 a) (valueOf 2 b)
-upto-told a b {z} e f =
-    f ∙ ap (λ (w : Wide). leZ (valueOf 2 a) (valueOf 2 b +ℤ valueOf 2 w)) e ∙ ap (leZ (valueOf 2 a)) (plus-zero (valueOf 2 b))
+pub upto-told : (a b : Wide) {t : Bool} → t ≡ leZ (valueOf 2 a) (valueOf 2 b +ℤ valueOf 2 zeroWide) → t ≡ leZ (valueOf 2 a) (valueOf 2 b)
+upto-told a b f = f ∙ ap (leZ (valueOf 2 a)) (plus-zero (valueOf 2 b))
 
 -- ---- the order of two sums
 module _ (a b : Parts) {r : Bool} (e : r ≡ leZ (valueOf 2 (a .high)) (valueOf 2 (b .high))) where

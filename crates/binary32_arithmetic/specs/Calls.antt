@@ -3,7 +3,6 @@ use Prim.Native.Nat.{ℕ}
 use Rattle.theory.specs.Tests.{_and_, unless}
 use Rattle.theory.specs.declared.Direction.{Direction}
 use Rattle.format.specs.declared.Format.{Format}
-use Rattle.format.specs.declared.Refusal.the-variants.{NotFinite}
 use Rattle.format.specs.Directions.{isDirection, direction}
 use Rattle.format.specs.Given.{Given, refused}
 use Rattle.format.specs.Published.{binary32}
@@ -12,8 +11,6 @@ use Rattle.arithmetic.specs.Operations.{roundedSum, roundedDifference, roundedP
 use Rattle.binary32.specs.Patterns.{finite, numberRead, answerWritten}
 use Rattle.binary32_arithmetic.specs.declared.Operation.{Operation}
 use Rattle.binary32_arithmetic.specs.declared.Operation.the-variants.{Sum, Difference, Product, Quotient}
-use Rattle.binary32_arithmetic.specs.declared.PairAnswer.{PairAnswer}
-use Rattle.binary32_arithmetic.specs.declared.PairAnswer.the-variants as pair
 
 -- an operation of a format
 abbrev pub roundedBy : Operation → Format → Direction → (a b : Number) → Given Number
@@ -29,7 +26,3 @@ onPatterns operation d a b = unless (finite a and finite b) (refused 9) (answerW
 -- the public calls: refusal 2 comes first
 unfoldable pub patternCall : Operation → (d a b : ℕ) → Given ℕ
 patternCall operation d a b = unless (isDirection d) (refused 2) (onPatterns operation (direction d) a b)
-
--- ---- for inner functions: two patterns read, or refusal 9
-unfoldable pub pairOf : (a b : ℕ) → PairAnswer
-pairOf a b = unless (finite a and finite b) (pair.Refused NotFinite) (pair.Both (record { first = numberRead a; second = numberRead b }))

@@ -4,7 +4,6 @@ use crate::Parts;
 use arithmetic::operands::wide_of;
 use binary32::patterns::read_finite;
 use binary32::prepared::prepared_binary32;
-use format::Scale;
 use rounding::Wide;
 use theory::Direction;
 ghost use mathlib.Core.Path.{_≡_};
@@ -12,30 +11,17 @@ ghost use mathlib.Core.Bool.{true};
 ghost use lib.IntN.{_+ℤ_, natAbs};
 ghost use lib.Signed.{leZ, ltZ};
 ghost use Prim.Native.Nat.{_≤_};
-ghost use Rattle.format.specs.Formats.{scaleOf};
-ghost use Rattle.format.specs.Published.{binary32};
 ghost use Rattle.wide.specs.Operand.{valueOf};
 ghost use Rattle.binary32.specs.Patterns.{finite, patternValue};
-ghost use Rattle.binary32_arithmetic.specs.Exact.{Placed, Holds, SumOf, turned, zeroWide, Splits, splitUpto};
-
-// 24 binary digits.
-pub fn binary32_scale() -> Scale
-    ensures { λ r. ⌜ r ≡ scaleOf binary32 ⌝ }
-{
-    Scale {
-        base: 2,
-        digits: 24,
-        least: 8388608,
-        bound: 16777216,
-    }
-}
+ghost use Rattle.binary32_arithmetic.specs.Exact.{Placed, Holds, SumOf, turned, Splits, splitUpto};
 
 // x + y, rounded.
 fn sum_of(direction: Direction, x: Wide, y: Wide) -> Wide
     requires { ⌜ Placed 300 x × Placed 300 y ⌝ }
     ensures { λ r. ⌜ SumOf direction x y r ⌝ }
 {
-    wide::sum::sum(binary32_scale(), direction, x, y)
+    let prepared = prepared_binary32();
+    wide::sum::sum(prepared.scale, direction, x, y)
 }
 
 // The number of a finite pattern, in the wide format.
@@ -87,14 +73,6 @@ pub fn sum_reaches(a: Wide, b: Wide, c: Wide) -> bool
     !rest.negative | (rest.significand == 0)
 }
 
-// Is a + b above c? Exactly where -a - b is not at least -c.
-fn sum_exceeds(a: Wide, b: Wide, c: Wide) -> bool
-    requires { ⌜ Placed 260 a × Placed 260 b × Placed 260 c ⌝ }
-    ensures { λ r. ⌜ r ≡ ltZ (valueOf 2 c) (valueOf 2 a +ℤ valueOf 2 b) ⌝ }
-{
-    !sum_reaches(negated(a), negated(b), negated(c))
-}
-
 // Is a + b at least c? All are finite patterns.
 pub fn reaches(a: u32, b: u32, c: u32) -> bool
     requires { ⌜ (finite a ≡ true) × (finite b ≡ true) × (finite c ≡ true) ⌝ }
@@ -111,12 +89,16 @@ pub fn reaches_twice(a: u32, b: u32, c: u32) -> bool
     sum_reaches(read_wide(a), read_wide(b), doubled(read_wide(c)))
 }
 
-// Is a + b above 2 * c? All are finite patterns.
+// Is a + b above 2 * c? Exactly where -a - b is not at least -2 * c. All are finite patterns.
 pub fn exceeds_twice(a: u32, b: u32, c: u32) -> bool
     requires { ⌜ (finite a ≡ true) × (finite b ≡ true) × (finite c ≡ true) ⌝ }
     ensures { λ r. ⌜ r ≡ ltZ (patternValue c +ℤ patternValue c) (patternValue a +ℤ patternValue b) ⌝ }
 {
-    sum_exceeds(read_wide(a), read_wide(b), doubled(read_wide(c)))
+    !sum_reaches(
+        negated(read_wide(a)),
+        negated(read_wide(b)),
+        negated(doubled(read_wide(c))),
+    )
 }
 
 // a + b in three steps, where b is not greater than a in magnitude.
@@ -141,22 +123,17 @@ fn split(a: u32, b: u32) -> Parts
     split_ordered(read_wide(a), read_wide(b))
 }
 
-fn zero() -> Wide
-    ensures { λ r. ⌜ r ≡ zeroWide ⌝ }
-{
-    Wide {
-        negative: false,
-        significand: 0,
-        place: 0,
-    }
-}
-
 // Is a at most b?
 fn is_upto(a: Wide, b: Wide) -> bool
     requires { ⌜ Placed 260 a × Placed 260 b ⌝ }
     ensures { λ r. ⌜ r ≡ leZ (valueOf 2 a) (valueOf 2 b) ⌝ }
 {
-    sum_reaches(b, zero(), a)
+    let zero = Wide {
+        negative: false,
+        significand: 0,
+        place: 0,
+    };
+    sum_reaches(b, zero, a)
 }
 
 // Is the sum a at most the sum b? The rests decide where the rounded sums are equal.

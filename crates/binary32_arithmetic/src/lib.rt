@@ -1,25 +1,11 @@
 // Arithmetic on binary32 patterns: sum, difference, product and quotient of two patterns, the sum of two slices, and exact comparisons
 // of sums.
-pub mod entry;
 pub mod exact;
 pub mod operations;
 pub mod slices;
 
 use format::Refusal;
-use number::Number;
 use rounding::Wide;
-
-// Two numbers that were read.
-pub struct Pair {
-    pub first: Number,
-    pub second: Number,
-}
-
-// Two finite patterns, read.
-pub enum PairAnswer {
-    Both(Pair),
-    Refused(Refusal),
-}
 
 // The four operations.
 pub enum Operation {

@@ -1,13 +1,13 @@
 // The four operations on patterns, in a direction that is known and as public calls.
 use crate::Operation;
-use crate::PairAnswer;
-use crate::entry::read_two;
-use crate::entry::write_answer;
 use arithmetic::product::multiply;
 use arithmetic::quotient::divide;
 use arithmetic::sum::add;
 use arithmetic::sum::subtract;
 use binary32::PatternAnswer;
+use binary32::finite::is_finite;
+use binary32::patterns::pattern_of;
+use binary32::patterns::read_finite;
 use binary32::prepared::prepared_binary32;
 use format::Refusal;
 use format::directions::direction_of;
@@ -18,9 +18,10 @@ use theory::Direction;
 ghost use mathlib.Core.Path.{_≡_};
 ghost use mathlib.Core.Bool.{true};
 ghost use Rattle.format.specs.Published.{binary32};
+ghost use Rattle.number.specs.declared.NumberAnswer.the-variants.{Value};
 ghost use Rattle.number.specs.Answers.{numberGiven};
 ghost use Rattle.number.specs.Numbers.{member};
-ghost use Rattle.binary32.specs.Patterns.{patternGiven};
+ghost use Rattle.binary32.specs.Patterns.{answerWritten, patternGiven};
 ghost use Rattle.binary32_arithmetic.specs.Calls.{roundedBy, onPatterns, patternCall};
 ghost use Rattle.binary32_arithmetic.specs.declared.Operation.the-variants.{Sum, Difference, Product, Quotient};
 
@@ -38,6 +39,17 @@ fn operate(operation: Operation, direction: Direction, a: Number, b: Number) -> 
     }
 }
 
+// An answer with its number written.
+pub fn write_answer(answer: NumberAnswer) -> PatternAnswer
+    requires { ⌜ ((x : Number) → answer ≡ Value x → member binary32 x ≡ true) ⌝ }
+    ensures { λ r. ⌜ patternGiven r ≡ answerWritten (numberGiven answer) ⌝ }
+{
+    match answer {
+        NumberAnswer::Refused(why) => PatternAnswer::Refused(why),
+        NumberAnswer::Value(x) => PatternAnswer::Written(pattern_of(x)),
+    }
+}
+
 // The operation on two patterns. Refuses 9, 4, 5.
 pub fn operate_on_patterns(
     operation: Operation,
@@ -47,15 +59,13 @@ pub fn operate_on_patterns(
 ) -> PatternAnswer
     ensures { λ r. ⌜ patternGiven r ≡ onPatterns operation direction a b ⌝ }
 {
-    match read_two(a, b) {
-        PairAnswer::Refused(why) => PatternAnswer::Refused(why),
-        PairAnswer::Both(pair) => write_answer(operate(
-            operation,
-            direction,
-            pair.first,
-            pair.second,
-        )),
+    if !is_finite(a) {
+        return PatternAnswer::Refused(Refusal::NotFinite);
     }
+    if !is_finite(b) {
+        return PatternAnswer::Refused(Refusal::NotFinite);
+    }
+    write_answer(operate(operation, direction, read_finite(a), read_finite(b)))
 }
 
 // The same in a direction that is examined. Refuses 2, 9, 4, 5.

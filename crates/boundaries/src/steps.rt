@@ -6,7 +6,7 @@ use binary32::PatternAnswer;
 use binary32::patterns::pattern_of;
 use binary32::patterns::read_finite;
 use binary32::prepared::prepared_binary32;
-use binary32_arithmetic::entry::write_answer;
+use binary32_arithmetic::operations::write_answer;
 use fast_two_sum::StepsAnswer;
 use fast_two_sum::sum::three_steps;
 use number::Number;

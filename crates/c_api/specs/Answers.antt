@@ -1,7 +1,7 @@
 -- What is given, as C sees it: the refusal's number, 0 for none, and the values, zero at a refusal. And a number as C hands it over.
 use Prim.Native.Nat.{ℕ, _*_, _-_, _^_, _<_}
 use mathlib.Core.Path.{_≡_}
-use mathlib.Core.Bool.{Bool, true, false, cond}
+use mathlib.Core.Bool.{Bool, cond}
 use lib.Dec.{leb, eqb}
 use lib.IntN.{ℤ, pos, negsuc}
 use Rattle.format.specs.declared.Format.{Format}

@@ -1,102 +1,79 @@
 -- What is known of a line that was read byte by byte determines what is printed for it.
-use Rattle.theory.proofs.Prelude.{ℕ, _≤_, _<_, _+_, _^_, _*_, suc, _%_, true, false, Bool, cond, [], _∷_, List, _++_, _≡_, sym, refl, decLe, pow-suc, add-one, arith, leb, length, ne-eqb, le-leb, lt-leb, le-ltb, lt-ltb, ltb-true}
+use Rattle.theory.proofs.Prelude.{ℕ, _≤_, _<_, _+_, _^_, _*_, suc, _%_, true, false, Bool, cond, [], _∷_, List, _++_, _≡_, sym, refl, decLe, pow-suc, add-zero, add-one, arith, leb, length, ne-eqb, le-leb, lt-leb, le-ltb, lt-ltb, ltb-true}
 use native.Mathlib.Nat.{zero-add}
-use lib.ListN.{length-append}
 use Rattle.theory.specs.Lists.{all}
 use Rattle.theory.specs.Tests.{_and_}
-use Rattle.theory.proofs.Tests.{and-left, and-right}
 use Rattle.theory.proofs.Powers.{pow-mono}
 use Rattle.lines.specs.declared.reading.Line.{Line}
 use Rattle.lines.specs.Digits.{digitOf, isDigit}
 use Rattle.lines.specs.Reading.{isPattern, valueFrom, digitsValue, known, fresh, bad, pushed}
 use Rattle.lines.specs.Printing.{printed, textOf}
 
--- what is known of the bytes of a line
-unfoldable pub lineOf : List ℕ → Line
-lineOf bs = cond (all isDigit bs and leb (length bs) 8) (known (length bs) (digitsValue bs)) bad
+-- what is known of a line after more bytes, and of the bytes of a whole line
+unfoldable pub pushedAll : Line → List ℕ → Line
+pushedAll l [] = l
+pushedAll l (b ∷ bs) = pushedAll (pushed l b) bs
 
-pub line-fresh : lineOf [] ≡ fresh
-unfolding lineOf all valueFrom _and_
-line-fresh = refl
+abbrev pub lineOf : List ℕ → Line
+lineOf bs = pushedAll fresh bs
 
--- ---- one byte more
-and-true : (t : Bool) → (t and true) ≡ t
-unfolding _and_
-and-true true = refl
-and-true false = refl
+pub line-snoc : (l : Line) (bs : List ℕ) (b : ℕ) → pushedAll l (bs ++ b ∷ []) ≡ pushed (pushedAll l bs) b
+unfolding pushedAll
+line-snoc l [] b = refl
+line-snoc l (x ∷ bs) b = line-snoc (pushed l x) bs b
+
+-- ---- what is known, by the digits
+bad-stays : (bs : List ℕ) → pushedAll bad bs ≡ bad
+unfolding pushedAll pushed _and_
+bad-stays [] = refl
+bad-stays (b ∷ bs) = bad-stays bs
 
 and-false : (t : Bool) → (t and false) ≡ false
 unfolding _and_
 and-false true = refl
 and-false false = refl
 
-and-assoc : (t u v : Bool) → (t and u and v) ≡ ((t and u) and v)
-unfolding _and_
-and-assoc true u v = refl
-and-assoc false u v = refl
+digit-below : (b : ℕ) → isDigit b ≡ true → digitOf b < 16
+unfolding isDigit
+digit-below b h = ltb-true (digitOf b) 16 h
 
-all-snoc : (bs : List ℕ) (b : ℕ) → all isDigit (bs ++ b ∷ []) ≡ (all isDigit bs and isDigit b)
-unfolding all _and_
-all-snoc [] b = and-true (isDigit b)
-all-snoc (x ∷ bs) b = rw (all-snoc bs b) (and-assoc (isDigit x) (all isDigit bs) (isDigit b))
+-- n digits with the value v, and then more bytes
+abbrev Known : (n v : ℕ) (bs : List ℕ) → Type 0
+Known n v bs = pushedAll (known n v) bs ≡ cond (all isDigit bs and leb (n + length bs) 8) (known (n + length bs) (valueFrom v bs)) bad
 
-value-snoc : (v : ℕ) (bs : List ℕ) (b : ℕ) → valueFrom v (bs ++ b ∷ []) ≡ valueFrom v bs * 16 + digitOf b
-unfolding valueFrom
-value-snoc v [] b = refl
-value-snoc v (x ∷ bs) b = value-snoc (v * 16 + digitOf x) bs b
-
-value-below : (c v : ℕ) (bs : List ℕ) → v < 16 ^ c → all isDigit bs ≡ true → valueFrom v bs < 16 ^ (length bs + c)
-unfolding valueFrom all isDigit
-value-below c v [] s d = rw zero-add s
-value-below c v (b ∷ bs) s d =
-    let next : v * 16 + digitOf b < 16 ^ suc c = rw pow-suc (omega (arith, ltb-true (digitOf b) 16 (and-left _ _ d))) in
-    let e : length bs + suc c ≡ suc (length bs) + c = omega arith in
-    rw (sym e) (value-below (suc c) (v * 16 + digitOf b) bs next (and-right _ _ d))
-
-module _ (seen : List ℕ) (b : ℕ) where
-  more : length (seen ++ b ∷ []) ≡ suc (length seen)
-  more = omega (arith, length-append seen (b ∷ []))
-
-  -- a ninth byte
-  ninth : 8 ≤ length seen → 8 ≤ lineOf seen .count
-  unfolding lineOf
-  ninth h = by (all isDigit seen and leb (length seen) 8)
-    where
-      by : (t : Bool) → 8 ≤ (cond t (known (length seen) (digitsValue seen)) bad) .count
-      by true = h
-      by false = omega arith
-
-  push-ninth : (l : Line) → 8 ≤ l .count → pushed l b ≡ bad
-  unfolding pushed _and_
-  push-ninth l h = rw (le-ltb (l .count) 8 h)
-
-  pub line-snoc : lineOf (seen ++ b ∷ []) ≡ pushed (lineOf seen) b
-  unfolding lineOf pushed _and_
-  line-snoc = by (all isDigit seen) refl (decLe 8 (length seen))
-    where
-      by : (t : Bool) → all isDigit seen ≡ t → Dec (8 ≤ length seen) → lineOf (seen ++ b ∷ []) ≡ pushed (lineOf seen) b
-      by t d (yes h) = rw (more, lt-leb (suc (length seen)) 8 (omega arith), and-false) (sym (push-ninth (lineOf seen) (ninth h)))
-      by false d (no h) = rw (all-snoc seen b, d)
-      by true d (no h) =
-          let low : digitsValue seen < 16 ^ 7 = omega (arith, value-below 0 0 seen (omega arith) d, pow-mono {β = 16} (omega arith) {i = length seen + 0} {j = 7} (omega arith)) in
-          let whole : digitsValue seen % 2 ^ 28 ≡ digitsValue seen = omega arith in
-          rw (all-snoc seen b, d, more, le-leb (suc (length seen)) 8 (omega arith), le-leb (length seen) 8 (omega arith), lt-ltb (length seen) 8 (omega arith), value-snoc, whole, and-true, add-one)
+pushed-digits : (n v : ℕ) (bs : List ℕ) → n ≤ 8 → v < 16 ^ n → Known n v bs
+unfolding pushedAll pushed all valueFrom _and_
+pushed-digits n v [] h s = rw (add-zero, le-leb n 8 h)
+pushed-digits n v (b ∷ bs) h s = by (isDigit b) refl (decLe 8 n) (pushed-digits (n + 1) (v * 16 + digitOf b) bs)
+  where
+    by : (t : Bool) → isDigit b ≡ t → Dec (8 ≤ n) → (n + 1 ≤ 8 → v * 16 + digitOf b < 16 ^ (n + 1) → Known (n + 1) (v * 16 + digitOf b) bs) → Known n v (b ∷ bs)
+    by t d (yes g) more = rw (le-ltb n 8 g, lt-leb (n + suc (length bs)) 8 (omega arith), and-false) (bad-stays bs)
+    by false d (no g) more = rw (lt-ltb n 8 (omega arith), d) (bad-stays bs)
+    by true d (no g) more =
+        let low : v < 16 ^ 7 = omega (arith, pow-mono {β = 16} (omega arith) {i = n} {j = 7} (omega arith)) in
+        let whole : v % 2 ^ 28 ≡ v = omega arith in
+        let small : v * 16 + digitOf b < 16 ^ (n + 1) = rw (add-one, pow-suc) (omega (arith, digit-below b d)) in
+        let e : n + 1 + length bs ≡ n + suc (length bs) = omega arith in
+        rw (lt-ltb n 8 (omega arith), d, whole, sym e) (more (omega arith) small)
 
 -- ---- a whole line
 module _ (bs : List ℕ) where
+  line-known : lineOf bs ≡ cond (all isDigit bs and leb (length bs) 8) (known (length bs) (digitsValue bs)) bad
+  line-known = let k = pushed-digits 0 0 bs (omega arith) (omega arith) in rw zero-add at k
+
   pub line-printed : textOf (lineOf bs) ≡ printed bs
-  unfolding textOf lineOf printed isPattern _and_
-  line-printed = by (all isDigit bs) refl (decLe (length bs) 8)
+  unfolding textOf printed isPattern _and_
+  line-printed = rw line-known (by (all isDigit bs) refl (decLe (length bs) 8))
     where
-      by : (t : Bool) → all isDigit bs ≡ t → Dec (length bs ≤ 8) → textOf (lineOf bs) ≡ printed bs
+      by : (t : Bool) → all isDigit bs ≡ t → Dec (length bs ≤ 8)
+          → textOf (cond (all isDigit bs and leb (length bs) 8) (known (length bs) (digitsValue bs)) bad) ≡ printed bs
       by false d h = rw d
       by true d (yes h) = rw (d, le-leb (length bs) 8 h)
       by true d (no h) = rw (d, lt-leb (length bs) 8 (omega arith), ne-eqb (length bs) 8 (λ e. omega arith))
 
   -- a line that has begun
   pub some-byte : 1 ≤ length bs → 1 ≤ lineOf bs .count
-  unfolding lineOf
-  some-byte h = by (all isDigit bs and leb (length bs) 8)
+  some-byte h = rw line-known (by (all isDigit bs and leb (length bs) 8))
     where
       by : (t : Bool) → 1 ≤ (cond t (known (length bs) (digitsValue bs)) bad) .count
       by true = h

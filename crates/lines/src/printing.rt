@@ -3,10 +3,9 @@
 use crate::digits::LETTERS;
 use crate::reading::Line;
 use binary32::PatternAnswer;
-use binary32::patterns::read_pattern;
+use binary32::finite::is_finite;
 use binary32::places::Places;
 use binary32::places::places_of;
-use number::NumberAnswer;
 ghost use mathlib.Core.List.{[], _∷_, _++_};
 ghost use Prim.Native.Nat.{_+_, _≤_};
 ghost use lib.ListN.{length};
@@ -76,10 +75,10 @@ fn put_pattern(out: &mut [u8], at: usize, pattern: u32) -> usize
     ensures { λ r. ⌜ Put at 45 (patternText pattern ++ lineFeed) (now (out .entry)) r (now (out .exit)) ⌝ }
 {
     let next = put_field(out, at, PatternAnswer::Written(pattern), 32);
-    match read_pattern(pattern) {
-        NumberAnswer::Refused(_) => put_text(out, next, b"refused 9\n"),
-        NumberAnswer::Value(_) => put_places(out, next, places_of(pattern)),
+    if !is_finite(pattern) {
+        return put_text(out, next, b"refused 9\n");
     }
+    put_places(out, next, places_of(pattern))
 }
 
 // The line for a line that was read.

@@ -13,7 +13,7 @@ ghost use mathlib.Core.Bool.{true, false};
 ghost use Rattle.number.specs.Answers.{numberGiven, orderGiven};
 ghost use Rattle.fast_two_sum.specs.Answers.{stepsGiven};
 ghost use Rattle.binary32.specs.Patterns.{patternGiven};
-ghost use Rattle.vectors.specs.Calls.{whole, orderWhole, wholeOrder, patternNumber, firstOfSteps, answerOf};
+ghost use Rattle.vectors.specs.Calls.{whole, wholeOrder, patternNumber, firstOfSteps, answerOf};
 
 // A whole number.
 pub fn whole(negative: bool, n: u32) -> Number
@@ -27,21 +27,15 @@ pub fn whole(negative: bool, n: u32) -> Number
 }
 
 // An order as -1, 0 or 1.
-fn order_whole(order: Ordering) -> Number
-    ensures { λ r. ⌜ r ≡ orderWhole order ⌝ }
-{
-    match order {
-        Ordering::Less => whole(true, 1),
-        Ordering::Equal => whole(false, 0),
-        Ordering::Greater => whole(false, 1),
-    }
-}
-
 fn order_number(answer: OrderAnswer) -> NumberAnswer
     ensures { λ r. ⌜ numberGiven r ≡ wholeOrder (orderGiven answer) ⌝ }
 {
     match answer {
-        OrderAnswer::Ordered(order) => NumberAnswer::Value(order_whole(order)),
+        OrderAnswer::Ordered(order) => match order {
+            Ordering::Less => NumberAnswer::Value(whole(true, 1)),
+            Ordering::Equal => NumberAnswer::Value(whole(false, 0)),
+            Ordering::Greater => NumberAnswer::Value(whole(false, 1)),
+        },
         OrderAnswer::Refused(why) => NumberAnswer::Refused(why),
     }
 }

@@ -1,5 +1,5 @@
 -- `vectors::main` is safe: a block keeps its length.
-use Rattle.vectors.proofs.Prelude.{needs, ℕ, _*_, _≤_, _≡_, length}
+use Rattle.theory.proofs.Prelude.{needs, ℕ, _*_, _≤_, _≡_, length}
 use lib.ListN.{length-replicate}
 use Rattle.vectors.specs.Columns.{rowLength}
 use Rattle.vectors.proofs.main.Statement.{statement}

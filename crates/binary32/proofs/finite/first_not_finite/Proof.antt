@@ -13,9 +13,6 @@ Inv-loop patterns i₀ i = (i ≤ length patterns) × ((k : ℕ) → k < i → n
 abbrev μ-loop : tie.MeasureT-loop
 μ-loop patterns i₀ i = length patterns - i
 
-loop-holds : tie.Need-loop-holds Inv-loop μ-loop
-loop-holds c = (search needs, λ k l. absurd (omega arith))
-
 returns : tie.Need-returns Inv-loop μ-loop
 returns c =
     let j = c .before .before .before .before in
@@ -35,5 +32,5 @@ pub first-not-finite-spec : {M : Type 1} → statement M
 first-not-finite-spec =
     tie.close
     (tie.spec
-    Inv-loop μ-loop loop-holds (λ c. search needs) (λ c. search needs) (λ c κs. search needs) returns (λ c. search needs) (λ c. search needs)
-    loop-again returns-2)
+    Inv-loop μ-loop (λ c. (search needs, λ k l. absurd (omega arith))) (λ c. search needs) (λ c. search needs) (λ c κs. search needs) returns
+    (λ c. search needs) (λ c. search needs) loop-again returns-2)

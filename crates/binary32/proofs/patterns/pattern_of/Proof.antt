@@ -39,9 +39,6 @@ distance-requires c κs =
     let i = inside (c .before) in
     rw (back (exponent-fits (c .before))) (exponents-made (record { emin-low = omega arith; emin-emax = i .exponent-low; emax-high = omega (arith, i .exponent-high) }))
 
-mul-result : tie.Need-mul-result
-mul-result c = record { fits = omega (arith, place-most (c .before)) }
-
 add-result : tie.Need-add-result
 add-result c = let d = c .before in record { fits = omega (arith, sign-is c, sign-most (d .before .before .args .x .negative), place-most d) }
 
@@ -57,4 +54,5 @@ returns c = omega (arith, sign-is c, place-is (c .before))
 pub pattern-of-spec : {M : Type 1} → statement M
 pattern-of-spec =
     tie.close
-    (tie.spec distance-requires (λ c κs. search needs) mul-result add-result add-result-2 returns)
+    (tie.spec
+    distance-requires (λ c κs. search needs) (λ c. record { fits = omega (arith, place-most (c .before)) }) add-result add-result-2 returns)

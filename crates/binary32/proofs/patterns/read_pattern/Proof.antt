@@ -1,20 +1,17 @@
 -- `binary32::patterns::read_pattern` meets its contract.
-use Rattle.theory.proofs.Prelude.{_∙_, ap, _≡_, sym, needs, ne-eqb, eq-eqb}
-use Rattle.theory.proofs.Tests.{unless-passed, unless-failed}
-use Rattle.format.specs.Given.{Given, gives, refused}
-use Rattle.binary32.specs.Patterns.{fieldOf, finite, patternRead}
+use Rattle.theory.proofs.Prelude.{_∙_, ap, sym, needs}
+use Rattle.theory.proofs.Tests.{denied, granted, unless-passed, unless-failed}
+use Rattle.format.specs.Given.{gives}
+use Rattle.binary32.specs.Patterns.{patternRead}
 use Rattle.binary32.proofs.patterns.read_pattern.Statement.{statement}
 use Rattle.binary32.proofs.patterns.read_pattern.Tie as tie
 
 returns : tie.Need-returns
-unfolding patternRead finite
-returns c =
-    let e : fieldOf (c .before .before .args .pattern) ≡ 255 = sym (c .before .field-of .ensures) ∙ c .if1 .taken in
-    sym (unless-failed _ _ (rw (eq-eqb _ _ e)))
+unfolding patternRead
+returns c = sym (unless-failed _ _ (denied (c .before .is-finite .ensures) (c .if1 .taken)))
 
 read-finite-requires : tie.Need-read-finite-requires
-unfolding finite
-read-finite-requires c κs = rw (ne-eqb (fieldOf (c .before .before .args .pattern)) 255 (λ e. c .if1 .left (c .before .field-of .ensures ∙ e)))
+read-finite-requires c κs = granted (c .before .is-finite .ensures) (c .if1 .left)
 
 returns-2 : tie.Need-returns-2
 unfolding patternRead

@@ -21,9 +21,6 @@ ready e = ap Ready e ∙ sym (unless-passed _ _ binary32-admitted) ∙ prepared-
 checked : (c : tie.After-with-number) → c .with-number .result ≡ entered binary32 [] (c .before .before .args .x ∷ [])
 checked c = c .with-number .ensures ∙ number-after _ _ _ _ (ready (c .before .prepared-binary32 .ensures))
 
-pattern-of-requires : tie.Need-pattern-of-requires
-pattern-of-requires c κs = one-member (passed _ _ _ (sym (checked (c .before .before)) ∙ c .enum-told .given .1))
-
 returns : tie.Need-returns
 unfolding patternWritten
 returns c = ends _ _ _ _ (sym (checked (c .before .before .before)) ∙ c .before .why .given .1)
@@ -38,4 +35,5 @@ pub write-pattern-spec : {M : Type 1} → statement M
 write-pattern-spec =
     tie.close
     (tie.spec
-    (λ c κs. search needs) (λ c κs. search needs) (λ c. search needs) (λ c. search needs) pattern-of-requires returns returns-2)
+    (λ c κs. search needs) (λ c κs. search needs) (λ c. search needs) (λ c. search needs)
+    (λ c κs. one-member (passed _ _ _ (sym (checked (c .before .before)) ∙ c .enum-told .given .1))) returns returns-2)

@@ -1,24 +1,22 @@
 -- `binary32::places::predecessor` meets its contract.
-use Rattle.theory.proofs.Prelude.{arith, needs}
-use Rattle.binary32.proofs.Fields.{finite-field}
-use Rattle.binary32.proofs.PatternNeighbours.{no-predecessor, predecessor-minus, predecessor-zero, predecessor-plus}
+use Rattle.theory.proofs.Prelude.{ℕ, _-_, _≤_, _∙_, ap, sym, arith, needs}
+use Rattle.format.specs.Given.{gives}
+use Rattle.binary32.specs.Patterns.{patternOfKey}
+use Rattle.binary32.proofs.PatternNeighbours.{key-bounds, no-predecessor, key-predecessor}
 use Rattle.binary32.proofs.places.predecessor.Statement.{statement}
 use Rattle.binary32.proofs.places.predecessor.Tie as tie
 
-returns : tie.Need-returns
-returns c = no-predecessor _ (c .before .pre) (c .if1 .taken)
+bounds : (c : tie.After-key) → (8388609 ≤ c .key .result) × (c .key .result ≤ 4286578687)
+bounds c = omega (arith, c .key .ensures, key-bounds _ (c .before .pre))
 
-add-t4 : tie.Need-add-t4
-add-t4 c = record { fits = omega (arith, finite-field (c .before .before .args .pattern) (c .before .before .pre)) }
+returns : tie.Need-returns
+returns c = no-predecessor _ (c .before .before .pre) (sym (c .before .key .ensures) ∙ c .if1 .taken)
 
 returns-2 : tie.Need-returns-2
-returns-2 c = predecessor-minus _ (c .before .before .pre) (c .if2 .taken) (search needs) (c .before .if1 .left)
-
-returns-3 : tie.Need-returns-3
-returns-3 c = predecessor-zero _ (c .before .before .before .pre) (c .if3 .taken)
-
-returns-4 : tie.Need-returns-4
-returns-4 c = predecessor-plus _ (c .before .before .before .pre) (c .before .if2 .left) (c .if3 .left)
+returns-2 c =
+    let e = c .before in
+    let k = e .before .key .ensures in
+    ap gives (c .pattern-of-key .ensures ∙ ap (λ (j : ℕ). patternOfKey (j - 1)) k) ∙ key-predecessor _ (e .before .before .pre) (λ z. e .if1 .left (k ∙ z))
 
 pub predecessor-spec : {M : Type 1} → statement M
-predecessor-spec = tie.close (tie.spec returns add-t4 returns-2 returns-3 (λ c. search needs) returns-4)
+predecessor-spec = tie.close (tie.spec (λ c κs. search needs) returns (λ c. omega (arith, bounds (c .before))) (λ c κs. omega (arith, bounds (c .before))) returns-2)

@@ -1,30 +1,22 @@
 -- `binary32::places::successor` meets its contract.
-use Rattle.theory.proofs.Prelude.{_<_, sym, needs}
-use native.Mathlib.Numerals.{lt-of-le-of-ne}
-use Rattle.binary32.proofs.PatternNeighbours.{no-successor, successor-plus, successor-zero, successor-least, successor-minus}
+use Rattle.theory.proofs.Prelude.{ℕ, _+_, _≤_, _∙_, ap, sym, arith, needs}
+use Rattle.format.specs.Given.{gives}
+use Rattle.binary32.specs.Patterns.{patternOfKey}
+use Rattle.binary32.proofs.PatternNeighbours.{key-bounds, no-successor, key-successor}
 use Rattle.binary32.proofs.places.successor.Statement.{statement}
 use Rattle.binary32.proofs.places.successor.Tie as tie
 
+bounds : (c : tie.After-key) → (8388609 ≤ c .key .result) × (c .key .result ≤ 4286578687)
+bounds c = omega (arith, c .key .ensures, key-bounds _ (c .before .pre))
+
 returns : tie.Need-returns
-returns c = no-successor _ (c .before .pre) (c .if1 .taken)
+returns c = no-successor _ (c .before .before .pre) (sym (c .before .key .ensures) ∙ c .if1 .taken)
 
 returns-2 : tie.Need-returns-2
-returns-2 c = successor-plus _ (c .before .before .pre) (c .if2 .taken) (c .before .if1 .left)
-
-returns-3 : tie.Need-returns-3
-returns-3 c = successor-zero _ (c .before .before .before .pre) (c .if3 .taken)
-
-returns-4 : tie.Need-returns-4
-returns-4 c = successor-least _ (c .before .before .before .before .pre) (c .if4 .taken)
-
-returns-5 : tie.Need-returns-5
-returns-5 c =
-    let e3 = c .before in
-    let e2 = e3 .before in
-    let n = e2 .before .before .args .pattern in
-    let over-zero : 2147483648 < n = lt-of-le-of-ne (e2 .if2 .left) (λ e. e3 .if3 .left (sym e)) in
-    let over-least : 2147483649 < n = lt-of-le-of-ne over-zero (λ e. c .if4 .left (sym e)) in
-    successor-minus n (e2 .before .before .pre) over-least (search needs)
+returns-2 c =
+    let e = c .before in
+    let k = e .before .key .ensures in
+    ap gives (c .pattern-of-key .ensures ∙ ap (λ (j : ℕ). patternOfKey (j + 1)) k) ∙ key-successor _ (e .before .before .pre) (λ z. e .if1 .left (k ∙ z))
 
 pub successor-spec : {M : Type 1} → statement M
-successor-spec = tie.close (tie.spec returns (λ c. search needs) returns-2 returns-3 returns-4 (λ c. search needs) returns-5)
+successor-spec = tie.close (tie.spec (λ c κs. search needs) returns (λ c. record { fits = omega (arith, bounds (c .before)) }) (λ c κs. search needs) returns-2)

@@ -4,11 +4,9 @@ use Rattle.binary32_arithmetic.proofs.ExactSums.{twice-small, twice-nor
 use Rattle.binary32_arithmetic.proofs.exact.doubled.Statement.{statement}
 use Rattle.binary32_arithmetic.proofs.exact.doubled.Tie as tie
 
-returns : tie.Need-returns
-returns c = twice-small (c .before .args .x) (c .before .pre) (c .if1 .taken)
-
-returns-2 : tie.Need-returns-2
-returns-2 c = twice-normal (c .before .before .args .x) (c .before .before .pre) (c .before .if1 .left)
-
 pub doubled-spec : {M : Type 1} → statement M
-doubled-spec = tie.close (tie.spec (λ c. search needs) returns (λ c. search needs) returns-2)
+doubled-spec =
+    tie.close
+    (tie.spec
+    (λ c. search needs) (λ c. twice-small (c .before .args .x) (c .before .pre) (c .if1 .taken)) (λ c. search needs)
+    (λ c. twice-normal (c .before .before .args .x) (c .before .before .pre) (c .before .if1 .left)))

@@ -1,6 +1,6 @@
 -- `binary32_arithmetic::exact::reaches_twice` meets its contract.
-use Rattle.theory.proofs.Prelude.{_∙_, ap₂, arith, _+ℤ_, needs}
-use Rattle.binary32_arithmetic.proofs.ExactSums.{placed-more, sums-compared}
+use Rattle.theory.proofs.Prelude.{_∙_, ap₂, arith, _+ℤ_, leZ, needs}
+use Rattle.binary32_arithmetic.proofs.ExactSums.{placed-more}
 use Rattle.binary32_arithmetic.proofs.exact.reaches_twice.Statement.{statement}
 use Rattle.binary32_arithmetic.proofs.exact.reaches_twice.Tie as tie
 
@@ -16,7 +16,8 @@ returns : tie.Need-returns
 returns c =
     let o = c .before .before in
     let v = o .read-wide3 .ensures .value in
-    c .sum-reaches .ensures ∙ sums-compared (o .before .before .read-wide .ensures .value) (o .before .read-wide2 .ensures .value) (c .before .doubled .ensures .value ∙ ap₂ _+ℤ_ v v)
+    c .sum-reaches .ensures
+    ∙ ap₂ leZ (c .before .doubled .ensures .value ∙ ap₂ _+ℤ_ v v) (ap₂ _+ℤ_ (o .before .before .read-wide .ensures .value) (o .before .read-wide2 .ensures .value))
 
 pub reaches-twice-spec : {M : Type 1} → statement M
 reaches-twice-spec =

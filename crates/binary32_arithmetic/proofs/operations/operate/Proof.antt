@@ -20,18 +20,6 @@ asked c =
     let p = c .before .pre in
     record { usable = usable binary32-admitted e; first = prepared-member e _ (p .0); second = prepared-member e _ (p .1) }
 
-add-requires : tie.Need-add-requires
-add-requires c κs = asked (c .before .before)
-
-subtract-requires : tie.Need-subtract-requires
-subtract-requires c κs = asked (c .before .before)
-
-multiply-requires : tie.Need-multiply-requires
-multiply-requires c κs = asked (c .before .before)
-
-divide-requires : tie.Need-divide-requires
-divide-requires c κs = asked (c .before .before)
-
 -- the operation that was told, of the prepared format, is the operation of format 2
 told : (c : tie.After-prepared-binary32) {o : Operation} {r : Given Number} → c .before .args .operation ≡ o
     → r ≡ roundedBy o (c .prepared-binary32 .result .format) (c .before .args .direction) (c .before .args .a) (c .before .args .b)
@@ -40,18 +28,13 @@ told c e h =
     let s = c .before .args in
     h ∙ ap₂ (λ (o : Operation) (f : Format). roundedBy o f (s .direction) (s .a) (s .b)) (sym e) (prepared-format (c .prepared-binary32 .ensures))
 
-returns : tie.Need-returns
-returns c = let t = c .before in told (t .before .before) (t .enum-told .given .1) (c .add .ensures)
-
-returns-2 : tie.Need-returns-2
-returns-2 c = let t = c .before in told (t .before .before) (t .enum-told2 .given .1) (c .subtract .ensures)
-
-returns-3 : tie.Need-returns-3
-returns-3 c = let t = c .before in told (t .before .before) (t .enum-told3 .given .1) (c .multiply .ensures)
-
-returns-4 : tie.Need-returns-4
-returns-4 c = let t = c .before in told (t .before .before) (t .enum-told4 .given .1) (c .divide .ensures)
-
 pub operate-spec : {M : Type 1} → statement M
 operate-spec =
-    tie.close (tie.spec (λ c κs. search needs) (λ c. search needs) add-requires (λ c. search needs) subtract-requires (λ c. search needs) multiply-requires (λ c. search needs) divide-requires returns returns-2 returns-3 returns-4)
+    tie.close
+    (tie.spec
+    (λ c κs. search needs) (λ c. search needs) (λ c κs. asked (c .before .before)) (λ c. search needs) (λ c κs. asked (c .before .before))
+    (λ c. search needs) (λ c κs. asked (c .before .before)) (λ c. search needs) (λ c κs. asked (c .before .before))
+    (λ c. let t = c .before in told (t .before .before) (t .enum-told .given .1) (c .add .ensures))
+    (λ c. let t = c .before in told (t .before .before) (t .enum-told2 .given .1) (c .subtract .ensures))
+    (λ c. let t = c .before in told (t .before .before) (t .enum-told3 .given .1) (c .multiply .ensures))
+    (λ c. let t = c .before in told (t .before .before) (t .enum-told4 .given .1) (c .divide .ensures)))

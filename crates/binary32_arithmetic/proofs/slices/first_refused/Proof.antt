@@ -31,9 +31,6 @@ module _ (j : tie.After-examine Inv-loop μ-loop) where
   within : i < length all
   within = omega (arith, entries-length (start .args .direction) (start .args .a .now) (start .args .b .now) (start .pre))
 
-loop-holds : tie.Need-loop-holds Inv-loop μ-loop
-loop-holds c = (search needs, λ k l. absurd (omega arith))
-
 returns : tie.Need-returns Inv-loop μ-loop
 returns c =
     let j = c .before .before .before in
@@ -55,5 +52,6 @@ pub first-refused-spec : {M : Type 1} → statement M
 first-refused-spec =
     tie.close
     (tie.spec
-    Inv-loop μ-loop loop-holds (λ c. search needs) (λ c. search needs) (λ c. search needs) (λ c. search needs) (λ c κs. search needs)
-    (λ c. search needs) returns (λ c. search needs) (λ c. search needs) (λ c. search needs) loop-again returns-2)
+    Inv-loop μ-loop (λ c. (search needs, λ k l. absurd (omega arith))) (λ c. search needs) (λ c. search needs) (λ c. search needs)
+    (λ c. search needs) (λ c κs. search needs) (λ c. search needs) returns (λ c. search needs) (λ c. search needs) (λ c. search needs) loop-again
+    returns-2)

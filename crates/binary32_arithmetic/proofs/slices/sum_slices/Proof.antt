@@ -50,9 +50,6 @@ returns-3 c =
     let s = e .before .before .before .before .before .args in
     (no-direction (s .direction) (s .a .now) (s .b .now) (s .out .now) (e .before .if1 .left) (e .if2 .left) (denied (c .before .is-direction .ensures) (c .if3 .taken)), refl)
 
-direction-of-requires : tie.Need-direction-of-requires
-direction-of-requires c κs = granted (c .before .is-direction .ensures) (c .if3 .left)
-
 -- ---- after the first pass
 module _ (j : tie.After-first-refused) where
   abbrev start : tie.Start
@@ -71,9 +68,6 @@ returns-4 c =
     let j = c .before .before .before in
     absurd (never-plain _ (sym (j .first-refused .ensures) ∙ ap slicesGiven (c .before .why .given .1)))
 
-returns-5 : tie.Need-returns-5
-returns-5 c = (sym (ap slicesGiven (c .before .why2 .given .1)) ∙ passed (c .before .before .before), refl)
-
 returns-6 : tie.Need-returns-6
 returns-6 c =
     let t = c .before .before .before .before in
@@ -87,5 +81,6 @@ pub sum-slices-spec : {M : Type 1} → statement M
 sum-slices-spec =
     tie.close
     (tie.spec
-    returns returns-2 (λ c κs. search needs) returns-3 direction-of-requires (λ c κs. search needs) (λ c. search needs) (λ c. search needs)
-    (λ c. search needs) (λ c κs. search needs) returns-4 returns-5 (λ c. search needs) returns-6)
+    returns returns-2 (λ c κs. search needs) returns-3 (λ c κs. granted (c .before .is-direction .ensures) (c .if3 .left)) (λ c κs. search needs)
+    (λ c. search needs) (λ c. search needs) (λ c. search needs) (λ c κs. search needs) returns-4
+    (λ c. (sym (ap slicesGiven (c .before .why2 .given .1)) ∙ passed (c .before .before .before), refl)) (λ c. search needs) returns-6)

@@ -14,39 +14,6 @@ Inv-loop direction a b out₀ i₀ out i =
 abbrev μ-loop : tie.MeasureT-loop
 μ-loop direction a b out₀ i₀ out i = length a - i
 
-loop-holds : tie.Need-loop-holds Inv-loop μ-loop
-loop-holds c = search needs
-
-mul-operate-on-patterns : tie.Need-mul-operate-on-patterns Inv-loop μ-loop
-mul-operate-on-patterns c = search needs
-
-shared-slice-read-operate-on-patterns : tie.Need-shared-slice-read-operate-on-patterns Inv-loop μ-loop
-shared-slice-read-operate-on-patterns c = search needs
-
-mul-operate-on-patterns-2 : tie.Need-mul-operate-on-patterns-2 Inv-loop μ-loop
-mul-operate-on-patterns-2 c = search needs
-
-shared-slice-read-operate-on-patterns-2 : tie.Need-shared-slice-read-operate-on-patterns-2 Inv-loop μ-loop
-shared-slice-read-operate-on-patterns-2 c = search needs
-
-operate-on-patterns-requires : tie.Need-operate-on-patterns-requires Inv-loop μ-loop
-operate-on-patterns-requires c κs = search needs
-
-written-or-zero-requires : tie.Need-written-or-zero-requires Inv-loop μ-loop
-written-or-zero-requires c κs = search needs
-
-mul-out : tie.Need-mul-out Inv-loop μ-loop
-mul-out c = search needs
-
-slice-write-out : tie.Need-slice-write-out Inv-loop μ-loop
-slice-write-out c = search needs
-
-add-done : tie.Need-add-done Inv-loop μ-loop
-add-done c = search needs
-
-loop-less : tie.Need-loop-less Inv-loop μ-loop
-loop-less c = search needs
-
 loop-again : tie.Need-loop-again Inv-loop μ-loop
 loop-again c =
     let j = c .before .before .before .before .before in
@@ -58,9 +25,6 @@ loop-again c =
       written-step (st .args .direction) (j .loop .done) (c .written-or-zero .result) (st .args .a .now) (st .args .b .now) (j .loop .out) (omega arith) (st .pre .0) (omega arith) v
           ∙ j .loop .inv .2,
     )
-
-same-length : tie.Need-same-length Inv-loop μ-loop
-same-length c = search needs
 
 returns : tie.Need-returns Inv-loop μ-loop
 returns c =
@@ -74,6 +38,5 @@ pub write-sums-spec : {M : Type 1} → statement M
 write-sums-spec =
     tie.close
     (tie.spec
-    Inv-loop μ-loop loop-holds mul-operate-on-patterns shared-slice-read-operate-on-patterns mul-operate-on-patterns-2
-    shared-slice-read-operate-on-patterns-2 operate-on-patterns-requires written-or-zero-requires mul-out slice-write-out add-done loop-less
-    loop-again same-length returns)
+    Inv-loop μ-loop (λ c. search needs) (λ c. search needs) (λ c. search needs) (λ c. search needs) (λ c. search needs) (λ c κs. search needs)
+    (λ c κs. search needs) (λ c. search needs) (λ c. search needs) (λ c. search needs) (λ c. search needs) loop-again (λ c. search needs) returns)

@@ -1,5 +1,5 @@
 -- `boundaries::steps::three_sum` meets its contract.
-use Rattle.theory.proofs.Prelude.{_∙_, _≡_, sym, needs}
+use Rattle.theory.proofs.Prelude.{_∙_, sym, needs}
 use Rattle.number.specs.Checks.{Operands}
 use Rattle.number.proofs.Membership.{prepared-format, prepared-member, usable}
 use Rattle.binary32.proofs.Fields.{binary32-admitted}

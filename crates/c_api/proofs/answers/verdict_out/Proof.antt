@@ -1,6 +1,5 @@
 -- `c_api::answers::verdict_out` meets its contract.
 use Rattle.theory.proofs.Prelude.{ℕ, _∙_, ap, sym, needs}
-use Rattle.format.specs.Given.{refused}
 use Rattle.format.specs.declared.Verdict.{Verdict}
 use Rattle.format.specs.Given.{verdictGiven}
 use Rattle.c_api.specs.Answers.{refusalOut}

@@ -17,47 +17,31 @@ record Going (first : Line) (input before : List ℕ) (i : ℕ) (line : Line) (a
       → Put 0 (45 * i + most) (ended first input) before next after
   begins : begun line (drop i input) ≡ begun first input
 
--- the next byte
-module _ (l : Line) (b : ℕ) (bs : List ℕ) where
-  ended-feed : b ≡ 10 → ended l (b ∷ bs) ≡ (textOf l ++ lineFeed) ++ ended fresh bs
-  unfolding ended
-  ended-feed h = rw (eq-eqb b 10 h)
-
-  begun-feed : b ≡ 10 → begun l (b ∷ bs) ≡ begun fresh bs
-  unfolding begun
-  begun-feed h = rw (eq-eqb b 10 h)
-
-  ended-byte : (b ≡ 10 → ⊥) → ended l (b ∷ bs) ≡ ended (pushed l b) bs
-  unfolding ended
-  ended-byte h = rw (ne-eqb b 10 h)
-
-  begun-byte : (b ≡ 10 → ⊥) → begun l (b ∷ bs) ≡ begun (pushed l b) bs
-  unfolding begun
-  begun-byte h = rw (ne-eqb b 10 h)
-
 module _ {first line : Line} {input before out : List ℕ} {i at : ℕ} (g : Going first input before i line at out) where
   module _ (h : i < length input) where
     rest : drop i input ≡ getD input i 0 ∷ drop (i + 1) input
     rest = rw (add-one, drop-cons input i 0)
 
     line-ends : {next : ℕ} {after : List ℕ} → getD input i 0 ≡ 10 → Put at 45 (textOf line ++ lineFeed) out next after → Going first input before (i + 1) fresh next after
+    unfolding ended begun
     line-ends e p =
         record {
           within = omega arith;
           room = omega (arith, p .ends, p .fits, g .room);
           same = put-length p ∙ g .same;
-          completes = λ q. put-upto (omega arith) (g .completes (put-as (sym (ap (ended line) rest ∙ ended-feed line _ _ e)) (put-after p q)));
-          begins = sym (ap (begun line) rest ∙ begun-feed line _ _ e) ∙ g .begins;
+          completes = λ q. put-upto (omega arith) (g .completes (put-as (rw (rest, eq-eqb _ 10 e)) (put-after p q)));
+          begins = rw (rest, eq-eqb (getD input i 0) 10 e) at (g .begins);
         }
 
     byte-fed : (getD input i 0 ≡ 10 → ⊥) → Going first input before (i + 1) (pushed line (getD input i 0)) at out
+    unfolding ended begun
     byte-fed e =
         record {
           within = omega arith;
           room = omega (arith, g .room);
           same = g .same;
-          completes = λ q. put-upto (omega arith) (g .completes (put-as (sym (ap (ended line) rest ∙ ended-byte line _ _ e)) q));
-          begins = sym (ap (begun line) rest ∙ begun-byte line _ _ e) ∙ g .begins;
+          completes = λ q. put-upto (omega arith) (g .completes (put-as (rw (rest, ne-eqb _ 10 e)) q));
+          begins = rw (rest, ne-eqb (getD input i 0) 10 e) at (g .begins);
         }
 
   none : i ≡ length input → drop i input ≡ []
@@ -79,9 +63,6 @@ abbrev μ-loop : tie.MeasureT-loop
 
 loop-holds : tie.Need-loop-holds Inv-loop μ-loop
 loop-holds c = record { within = omega arith; room = omega arith; same = refl; completes = λ q. put-upto (omega arith) q; begins = refl }
-
-put-line-requires : tie.Need-put-line-requires Inv-loop μ-loop
-put-line-requires c κs = let l = c .before .before .before .before in omega (arith, l .loop .inv .room, l .loop .inv .same)
 
 loop-again : tie.Need-loop-again Inv-loop μ-loop
 loop-again c =
@@ -106,5 +87,6 @@ pub answer-block-spec : {M : Type 1} → statement M
 answer-block-spec =
     tie.close
     (tie.spec
-    Inv-loop μ-loop loop-holds (λ c. search needs) (λ c. search needs) put-line-requires (λ c κs. search needs) (λ c. search needs) loop-again
-    (λ c κs. search needs) (λ c. search needs) loop-again-2 (λ c. c .before .loop .inv .same) returns)
+    Inv-loop μ-loop loop-holds (λ c. search needs) (λ c. search needs)
+    (λ c κs. let l = c .before .before .before .before in omega (arith, l .loop .inv .room, l .loop .inv .same)) (λ c κs. search needs)
+    (λ c. search needs) loop-again (λ c κs. search needs) (λ c. search needs) loop-again-2 (λ c. c .before .loop .inv .same) returns)

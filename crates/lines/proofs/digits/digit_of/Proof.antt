@@ -4,9 +4,6 @@ use Rattle.lines.proofs.DigitLaws.{no-value, another, its-letter}
 use Rattle.lines.proofs.digits.digit_of.Statement.{statement}
 use Rattle.lines.proofs.digits.digit_of.Tie as tie
 
-returns : tie.Need-returns
-returns c = no-value _ (search needs) (c .if1 .taken)
-
 returns-2 : tie.Need-returns-2
 returns-2 c =
     let l = c .before in
@@ -21,4 +18,5 @@ pub digit-of-spec : {M : Type 1} → statement M
 digit-of-spec =
     tie.close
     (tie.spec
-    (λ c. search needs) (λ c. search needs) returns (λ c κs. search needs) (λ c. search needs) (λ c κs. search needs) returns-2 returns-3)
+    (λ c. search needs) (λ c. search needs) (λ c. no-value _ (search needs) (c .if1 .taken)) (λ c κs. search needs) (λ c. search needs)
+    (λ c κs. search needs) returns-2 returns-3)

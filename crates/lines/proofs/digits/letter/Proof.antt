@@ -4,8 +4,5 @@ use Rattle.lines.proofs.DigitLaws.{letter-is}
 use Rattle.lines.proofs.digits.letter.Statement.{statement}
 use Rattle.lines.proofs.digits.letter.Tie as tie
 
-returns : tie.Need-returns
-returns c = letter-is (c .args .n)
-
 pub letter-spec : {M : Type 1} → statement M
-letter-spec = tie.close (tie.spec (λ c. search needs) (λ c. search needs) returns)
+letter-spec = tie.close (tie.spec (λ c. search needs) (λ c. search needs) (λ c. letter-is (c .args .n)))

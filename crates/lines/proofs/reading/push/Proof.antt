@@ -21,12 +21,6 @@ module _ (l : Line) (b : ℕ) where
     unfolding pushed isDigit _and_
     digit h = rw (sym e, lt-ltb (l .count) 8 c, lt-ltb d 16 h)
 
-returns : tie.Need-returns
-returns c = ninth _ _ (c .if1 .taken)
-
-returns-2 : tie.Need-returns-2
-returns-2 c = other _ _ (c .before .before .before .digit-of .ensures) (c .before .if1 .left) (c .if2 .taken)
-
 returns-3 : tie.Need-returns-3
 returns-3 c =
     let e = c .before .before .before in
@@ -35,4 +29,7 @@ returns-3 c =
 pub push-spec : {M : Type 1} → statement M
 push-spec =
     tie.close
-    (tie.spec (λ c κs. search needs) returns returns-2 (λ c. search needs) (λ c. search needs) (λ c. search needs) returns-3)
+    (tie.spec
+    (λ c κs. search needs) (λ c. ninth _ _ (c .if1 .taken))
+    (λ c. other _ _ (c .before .before .before .digit-of .ensures) (c .before .if1 .left) (c .if2 .taken)) (λ c. search needs) (λ c. search needs)
+    (λ c. search needs) returns-3)

@@ -1,5 +1,6 @@
 -- `vectors::calls::answer_of` meets its contract.
-use Rattle.vectors.proofs.Prelude.{needs, arith, ℕ, zero, suc, _≤_, _≡_, sym, ap, _∙_, back}
+use Rattle.theory.proofs.Prelude.{needs, arith, ℕ, zero, suc, _≤_, _≡_, sym, ap, _∙_}
+use Rattle.format.proofs.Signed.{back}
 use Rattle.theory.proofs.Prelude.{ℤ, w32, SFits}
 use lib.ListN.{List·getD-eq-default}
 use Rattle.format.specs.declared.Format.{Format}

@@ -1,5 +1,5 @@
 -- `vectors::calls::first_step` meets its contract.
-use Rattle.vectors.proofs.Prelude.{needs, sym, ap}
+use Rattle.theory.proofs.Prelude.{needs, sym, ap}
 use Rattle.fast_two_sum.specs.declared.StepsAnswer.{StepsAnswer}
 use Rattle.fast_two_sum.specs.Answers.{stepsGiven}
 use Rattle.vectors.specs.Calls.{firstOfSteps}

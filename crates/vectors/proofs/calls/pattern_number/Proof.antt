@@ -1,5 +1,5 @@
 -- `vectors::calls::pattern_number` meets its contract.
-use Rattle.vectors.proofs.Prelude.{needs, sym, ap, _∙_}
+use Rattle.theory.proofs.Prelude.{needs, sym, ap, _∙_}
 use Rattle.format.specs.Given.{gives}
 use Rattle.binary32.specs.declared.PatternAnswer.{PatternAnswer}
 use Rattle.binary32.specs.Patterns.{patternGiven}

@@ -1,5 +1,6 @@
 -- `vectors::columns::are_columns` meets its contract: the columns from c on are columns exactly where all are.
-use Rattle.vectors.proofs.Prelude.{needs, arith, ℕ, suc, _+_, _-_, _≤_, _<_, _≡_, refl, sym, _∙_, true, List, and-failed, and-passed, denied, granted}
+use Rattle.theory.proofs.Prelude.{needs, arith, ℕ, suc, _+_, _-_, _≤_, _<_, _≡_, refl, sym, _∙_, true, List}
+use Rattle.theory.proofs.Tests.{and-failed, and-passed, denied, granted}
 use Rattle.theory.proofs.Prelude.{add-one}
 use Rattle.theory.specs.Tests.{_and_}
 use Rattle.vectors.specs.Columns.{columns, isColumn, areColumns}

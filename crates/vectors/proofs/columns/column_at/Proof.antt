@@ -1,5 +1,5 @@
 -- `vectors::columns::column_at` meets its contract: the digits so far, with those that are left, are the number.
-use Rattle.vectors.proofs.Prelude.{needs, arith, ℕ, suc, _+_, _*_, _-_, _^_, _≤_, _<_, _≡_, sym, ap, _∙_, cond, List}
+use Rattle.theory.proofs.Prelude.{needs, arith, ℕ, suc, _+_, _*_, _-_, _^_, _≤_, _<_, _≡_, sym, ap, _∙_, cond, List}
 use Rattle.theory.proofs.Prelude.{add-zero, pow-suc, add-one, ltb, getD, le-ltb, lt-ltb}
 use native.Mathlib.Nat.{pow-le-pow-right}
 use Rattle.lines.specs.Digits.{digitOf}

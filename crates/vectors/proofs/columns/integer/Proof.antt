@@ -1,5 +1,5 @@
 -- `vectors::columns::integer` meets its contract: -1 less the complement of the bits.
-use Rattle.vectors.proofs.Prelude.{needs, arith, ℕ, _-_, _^_, _≤_, _≡_, ap, _∙_}
+use Rattle.theory.proofs.Prelude.{needs, arith, ℕ, _-_, _^_, _≤_, _≡_, ap, _∙_}
 use Rattle.theory.proofs.Prelude.{ℤ, pos, _-ℤ_, negsuc, w32, toZ, ofZ}
 use mir.Facts.{toZ-pos}
 use Rattle.theory.proofs.Integers.{diff-parts, parts-eq}

@@ -1,5 +1,5 @@
 -- `vectors::columns::is_column` meets its contract.
-use Rattle.vectors.proofs.Prelude.{needs, ℕ, _+_, _*_, _%_, _^_, _≡_, _&&_, List}
+use Rattle.theory.proofs.Prelude.{needs, ℕ, _+_, _*_, _%_, _^_, _≡_, _&&_, List}
 use Rattle.theory.proofs.Prelude.{eqb, ltb, getD}
 use Rattle.vectors.specs.Columns.{columnAt, ends, columnLimits, shifts, isColumn}
 use Rattle.vectors.proofs.columns.is_column.Statement.{statement}

@@ -1,5 +1,6 @@
 -- `vectors::rows::agrees` meets its contract.
-use Rattle.vectors.proofs.Prelude.{needs, _≡_, sym, ap, ap₂, _∙_, and-failed, and-passed, denied, granted}
+use Rattle.theory.proofs.Prelude.{needs, _≡_, sym, ap, ap₂, _∙_}
+use Rattle.theory.proofs.Tests.{and-failed, and-passed, denied, granted}
 use Rattle.theory.proofs.Prelude.{le-leb, lt-leb}
 use Rattle.number.specs.Answers.{numberGiven}
 use Rattle.vectors.specs.Columns.{rowLength}

@@ -1,5 +1,6 @@
 -- `vectors::rows::answer_at` meets its contract.
-use Rattle.vectors.proofs.Prelude.{needs, _∙_, back}
+use Rattle.theory.proofs.Prelude.{needs, _∙_}
+use Rattle.format.proofs.Signed.{back}
 use Rattle.vectors.specs.Rows.{rowAnswer}
 use Rattle.vectors.proofs.rows.answer_at.Statement.{statement}
 use Rattle.vectors.proofs.rows.answer_at.Tie as tie

@@ -1,5 +1,5 @@
 -- `vectors::rows::count` meets its contract: the rows so far and those that are left are those of the input.
-use Rattle.vectors.proofs.Prelude.{needs, arith, ℕ, suc, _+_, _-_, _%_, _^_, _≤_, _<_, _≡_, refl, sym, ap, ap₂, _∙_, Bool, true, false, cond, List, length, take, drop}
+use Rattle.theory.proofs.Prelude.{needs, arith, ℕ, suc, _+_, _-_, _%_, _^_, _≤_, _<_, _≡_, refl, sym, ap, ap₂, _∙_, Bool, true, false, cond, List, length, take, drop}
 use Rattle.theory.proofs.Prelude.{length-drop, take-all, boolByte}
 use lib.Seq.{drop-drop}
 use Rattle.vectors.specs.declared.rows.Tally.{Tally}

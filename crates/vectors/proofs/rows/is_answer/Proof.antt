@@ -1,5 +1,5 @@
 -- `vectors::rows::is_answer` meets its contract.
-use Rattle.vectors.proofs.Prelude.{needs}
+use Rattle.theory.proofs.Prelude.{needs}
 use Rattle.vectors.specs.Rows.{isAnswer}
 use Rattle.vectors.proofs.rows.is_answer.Statement.{statement}
 use Rattle.vectors.proofs.rows.is_answer.Tie as tie

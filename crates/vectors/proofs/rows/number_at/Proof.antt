@@ -1,5 +1,6 @@
 -- `vectors::rows::number_at` meets its contract.
-use Rattle.vectors.proofs.Prelude.{needs, back}
+use Rattle.theory.proofs.Prelude.{needs}
+use Rattle.format.proofs.Signed.{back}
 use Rattle.vectors.specs.Rows.{numberAt}
 use Rattle.vectors.proofs.rows.number_at.Statement.{statement}
 use Rattle.vectors.proofs.rows.number_at.Tie as tie
