@@ -13,7 +13,7 @@ typedef struct fractions {
     pair pairs[PAIRS];
 } fractions;
 
-static uint64_t used(zurkeb_number_answer r) {
+static uint64_t used(zurkeb_rounded_answer r) {
     return (uint64_t)r.refusal << 40 ^ (uint64_t)r.number.negative << 39 ^ (uint64_t)(uint32_t)r.number.exponent << 32 ^
            r.number.significand;
 }

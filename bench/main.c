@@ -28,9 +28,16 @@ typedef struct our_work {
     const setting *in;
 } our_work;
 
+static uint64_t used_fields(uint32_t refusal, zurkeb_number x) {
+    return (uint64_t)refusal << 40 ^ (uint64_t)x.negative << 39 ^ (uint64_t)(uint32_t)x.exponent << 32 ^ x.significand;
+}
+
 static uint64_t used_number(zurkeb_number_answer r) {
-    return (uint64_t)r.refusal << 40 ^ (uint64_t)r.number.negative << 39 ^ (uint64_t)(uint32_t)r.number.exponent << 32 ^
-           r.number.significand;
+    return used_fields(r.refusal, r.number);
+}
+
+static uint64_t used_rounded(zurkeb_rounded_answer r) {
+    return used_fields(r.refusal, r.number);
 }
 
 static uint64_t operation_pass(const void *what) {
@@ -38,7 +45,7 @@ static uint64_t operation_pass(const void *what) {
     our_call call = our_calls[w->operation];
     uint64_t used = 0;
     for (int i = 0; i < PAIRS; i++)
-        used ^= used_number(call(w->in->format, ZURKEB_NEAREST_EVEN, w->in->pairs[i].a, w->in->pairs[i].b));
+        used ^= used_rounded(call(w->in->format, ZURKEB_NEAREST_EVEN, w->in->pairs[i].a, w->in->pairs[i].b));
     return used;
 }
 
@@ -73,7 +80,7 @@ static void compare_with(const peer *p, const setting *in) {
     for (int operation = 0; operation < OPERATIONS; operation++) {
         for (uint32_t d = 0; d < 5; d++) {
             for (int i = 0; i < PAIRS && p->has_direction(d); i++) {
-                zurkeb_number_answer r = our_calls[operation](in->format, d, in->pairs[i].a, in->pairs[i].b);
+                zurkeb_rounded_answer r = our_calls[operation](in->format, d, in->pairs[i].a, in->pairs[i].b);
                 refused += r.refusal != 0;
                 compared += r.refusal == 0;
                 different += r.refusal == 0 && !p->agrees((enum operation)operation, d, i, r.number);

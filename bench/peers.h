@@ -10,7 +10,7 @@
 
 enum operation { SUM, PRODUCT, QUOTIENT, OPERATIONS };
 
-typedef zurkeb_number_answer (*our_call)(zurkeb_format, uint32_t, zurkeb_number, zurkeb_number);
+typedef zurkeb_rounded_answer (*our_call)(zurkeb_format, uint32_t, zurkeb_number, zurkeb_number);
 extern const our_call our_calls[OPERATIONS];
 
 typedef struct peer {

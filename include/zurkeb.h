@@ -45,6 +45,10 @@ enum zurkeb_direction {
     ZURKEB_DOWNWARD = 4
 };
 
+/* How a rounded number stands to the exact result, by value: equal, below, above. For a negative result the number below is the one of
+ * greater magnitude. This is MPFR's ternary value. */
+enum zurkeb_mark { ZURKEB_EXACT = 0, ZURKEB_LOW = 1, ZURKEB_HIGH = 2 };
+
 /* Base, digits, lowest and highest exponent of the whole-number significand. */
 typedef struct zurkeb_format {
     uint32_t base;
@@ -65,6 +69,12 @@ typedef struct zurkeb_number_answer {
     uint32_t refusal;
     zurkeb_number number;
 } zurkeb_number_answer;
+
+typedef struct zurkeb_rounded_answer {
+    uint32_t refusal;
+    uint32_t mark; /* of enum zurkeb_mark; a refusal has none, and 0 stands here */
+    zurkeb_number number;
+} zurkeb_rounded_answer;
 
 typedef struct zurkeb_order_answer {
     uint32_t refusal;
@@ -88,7 +98,8 @@ typedef struct zurkeb_check_answer {
 
 typedef struct zurkeb_slices_answer {
     uint32_t refusal;
-    uint64_t index; /* of the first refused entry, beside refusals 5 and 9 */
+    uint64_t index;   /* of the first refused entry, beside refusals 5 and 9 */
+    uint64_t inexact; /* how many entries are not exact; 0 at a refusal */
 } zurkeb_slices_answer;
 
 /* The next four are laid out alike; `indexed` is 1 where the refusal has an index, else 0. */
@@ -135,11 +146,12 @@ typedef struct zurkeb_stretch_answer {
 ZURKEB_SIZE(zurkeb_format, 16);
 ZURKEB_SIZE(zurkeb_number, 12);
 ZURKEB_SIZE(zurkeb_number_answer, 16);
+ZURKEB_SIZE(zurkeb_rounded_answer, 20);
 ZURKEB_SIZE(zurkeb_order_answer, 8);
 ZURKEB_SIZE(zurkeb_published_answer, 20);
 ZURKEB_SIZE(zurkeb_triple_answer, 40);
 ZURKEB_SIZE(zurkeb_check_answer, 8);
-ZURKEB_SIZE(zurkeb_slices_answer, 16);
+ZURKEB_SIZE(zurkeb_slices_answer, 24);
 ZURKEB_SIZE(zurkeb_position_answer, 16);
 ZURKEB_SIZE(zurkeb_reach_answer, 16);
 ZURKEB_SIZE(zurkeb_row_answer, 16);
@@ -169,12 +181,12 @@ zurkeb_number_answer zurkeb_predecessor(zurkeb_format format, zurkeb_number x);
 zurkeb_number_answer zurkeb_successor(zurkeb_format format, zurkeb_number x);
 
 /* The exact result, rounded once in the direction. Refuse 1, 2, 3, 5; the quotient also 4. */
-zurkeb_number_answer zurkeb_sum(zurkeb_format format, uint32_t direction, zurkeb_number a, zurkeb_number b);
-zurkeb_number_answer zurkeb_difference(zurkeb_format format, uint32_t direction, zurkeb_number a, zurkeb_number b);
-zurkeb_number_answer zurkeb_product(zurkeb_format format, uint32_t direction, zurkeb_number a, zurkeb_number b);
-zurkeb_number_answer zurkeb_quotient(zurkeb_format format, uint32_t direction, zurkeb_number a, zurkeb_number b);
+zurkeb_rounded_answer zurkeb_sum(zurkeb_format format, uint32_t direction, zurkeb_number a, zurkeb_number b);
+zurkeb_rounded_answer zurkeb_difference(zurkeb_format format, uint32_t direction, zurkeb_number a, zurkeb_number b);
+zurkeb_rounded_answer zurkeb_product(zurkeb_format format, uint32_t direction, zurkeb_number a, zurkeb_number b);
+zurkeb_rounded_answer zurkeb_quotient(zurkeb_format format, uint32_t direction, zurkeb_number a, zurkeb_number b);
 /* numerator / denominator, two whole numbers, rounded once in the direction. Refuses 1, 2, 4, 5. */
-zurkeb_number_answer zurkeb_fraction(zurkeb_format format, uint32_t direction, int32_t numerator, uint32_t denominator);
+zurkeb_rounded_answer zurkeb_fraction(zurkeb_format format, uint32_t direction, int32_t numerator, uint32_t denominator);
 
 /* Rump's routes by the operations alone: the first place by figure 1, the last place by figures 3, 4 and 5. Where the premise
  * holds they answer what zurkeb_ufp and zurkeb_ulp answer. Refuse 1, 3, 8. */

@@ -6,7 +6,7 @@
 
 #include "zurkeb.h"
 
-typedef zurkeb_number_answer (*our_call)(zurkeb_format, uint32_t, zurkeb_number, zurkeb_number);
+typedef zurkeb_rounded_answer (*our_call)(zurkeb_format, uint32_t, zurkeb_number, zurkeb_number);
 
 /* base^k */
 static uint32_t power(uint32_t base, uint32_t k) {

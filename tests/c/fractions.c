@@ -52,7 +52,7 @@ static bool takes_next(uint32_t direction, bool negative, steps s) {
     }
 }
 
-static zurkeb_number_answer rounded(zurkeb_format f, uint32_t direction, bool negative, steps s) {
+static zurkeb_rounded_answer rounded(zurkeb_format f, uint32_t direction, bool negative, steps s) {
     wide top = raised(1, f.base, (int32_t)f.digits), m = s.whole + takes_next(direction, negative, s);
     int32_t e = s.exponent;
     if (m == top) {
@@ -60,12 +60,14 @@ static zurkeb_number_answer rounded(zurkeb_format f, uint32_t direction, bool ne
         e++;
     }
     if (e > f.emax)
-        return (zurkeb_number_answer){.refusal = ZURKEB_TOO_LARGE};
-    return (zurkeb_number_answer){0, {negative && m != 0, (uint32_t)m, e}};
+        return (zurkeb_rounded_answer){.refusal = ZURKEB_TOO_LARGE};
+    uint32_t side = takes_next(direction, negative, s) != negative ? ZURKEB_HIGH : ZURKEB_LOW;
+    return (zurkeb_rounded_answer){0, s.rest == 0 ? ZURKEB_EXACT : side, {negative && m != 0, (uint32_t)m, e}};
 }
 
-static void same_answer(const char *what, zurkeb_number_answer ours, zurkeb_number_answer wanted) {
+static void same_answer(const char *what, zurkeb_rounded_answer ours, zurkeb_rounded_answer wanted) {
     same(what, ours.refusal, wanted.refusal);
+    same(what, ours.mark, wanted.mark);
     same(what, ours.number.negative, wanted.number.negative);
     same(what, ours.number.significand, wanted.number.significand);
     same(what, (uint32_t)ours.number.exponent, (uint32_t)wanted.number.exponent);
@@ -89,7 +91,7 @@ static uint32_t any_length(void) {
 
 /* The whole number n where it is a number of the format: it is not rounded, up or down. */
 static bool whole(zurkeb_format f, int32_t n, zurkeb_number *x) {
-    zurkeb_number_answer up = zurkeb_fraction(f, ZURKEB_UPWARD, n, 1), down = zurkeb_fraction(f, ZURKEB_DOWNWARD, n, 1);
+    zurkeb_rounded_answer up = zurkeb_fraction(f, ZURKEB_UPWARD, n, 1), down = zurkeb_fraction(f, ZURKEB_DOWNWARD, n, 1);
     *x = up.number;
     return up.refusal == 0 && down.refusal == 0 && up.number.significand == down.number.significand &&
            up.number.exponent == down.number.exponent;
@@ -131,8 +133,8 @@ static void edges(zurkeb_format f) {
     }
 }
 
-static void refused(const char *what, zurkeb_number_answer ours, uint32_t wanted) {
-    same_answer(what, ours, (zurkeb_number_answer){.refusal = wanted});
+static void refused(const char *what, zurkeb_rounded_answer ours, uint32_t wanted) {
+    same_answer(what, ours, (zurkeb_rounded_answer){.refusal = wanted});
 }
 
 static void refusals(void) {
@@ -150,7 +152,7 @@ static void refusals(void) {
 /* In binary with 31 digits every numerator over 1 is unchanged, but for -2^31, which is 5 where Emax = 0. */
 static void unchanged(zurkeb_format f, int32_t n) {
     for (uint32_t direction = 0; direction < 5; direction++) {
-        zurkeb_number_answer r = zurkeb_fraction(f, direction, n, 1);
+        zurkeb_rounded_answer r = zurkeb_fraction(f, direction, n, 1);
         same("unchanged", r.refusal, 0);
         same("sign", r.number.negative, n < 0);
         same("value", (uint64_t)(raised(r.number.significand, 2, r.number.exponent) == raised(size(n), 2, -r.number.exponent)), 1);

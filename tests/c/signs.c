@@ -62,7 +62,7 @@ typedef struct call {
     int operands;
     bool directed;
     zurkeb_number_answer (*of_one)(zurkeb_format, zurkeb_number);
-    zurkeb_number_answer (*of_two)(zurkeb_format, uint32_t, zurkeb_number, zurkeb_number);
+    zurkeb_rounded_answer (*of_two)(zurkeb_format, uint32_t, zurkeb_number, zurkeb_number);
     outcome (*other)(zurkeb_format, uint32_t, const zurkeb_number *);
 } call;
 
@@ -92,9 +92,17 @@ enum { CALLS = sizeof calls / sizeof *calls };
 static outcome answer(const call *c, zurkeb_format f, uint32_t direction, const zurkeb_number *x) {
     if (c->other)
         return c->other(f, direction, x);
-    zurkeb_number_answer r = c->of_one ? c->of_one(f, x[0]) : c->of_two(f, direction, x[0], x[1]);
-    outcome o = {.refusal = r.refusal};
-    put(o.fields, r.number);
+    outcome o = {0};
+    if (c->of_one) {
+        zurkeb_number_answer r = c->of_one(f, x[0]);
+        o.refusal = r.refusal;
+        put(o.fields, r.number);
+    } else {
+        zurkeb_rounded_answer r = c->of_two(f, direction, x[0], x[1]);
+        o.refusal = r.refusal;
+        put(o.fields, r.number);
+        o.fields[3] = r.mark;
+    }
     return o;
 }
 
@@ -172,7 +180,7 @@ static void good_signs(zurkeb_format f) {
     same("magnitude", size.negative, 0);
     same("magnitude", size.significand == a.significand && size.exponent == a.exponent, 1);
     same("compare", (uint32_t)zurkeb_compare(f, a, minus).order, !some ? 0 : a.negative ? (uint32_t)-1 : 1);
-    zurkeb_number_answer product = zurkeb_product(f, ZURKEB_NEAREST_EVEN, a, b), sum = zurkeb_sum(f, ZURKEB_NEAREST_EVEN, a, minus);
+    zurkeb_rounded_answer product = zurkeb_product(f, ZURKEB_NEAREST_EVEN, a, b), sum = zurkeb_sum(f, ZURKEB_NEAREST_EVEN, a, minus);
     if (product.refusal == 0)
         same("product", product.number.negative, product.number.significand != 0 && a.negative != b.negative);
     same("sum", sum.refusal + sum.number.negative + sum.number.significand, 0);

@@ -7,14 +7,18 @@ significand, exponent. Below zero is two's complement. Columns that a call does 
 - A pattern stands as a significand.
 - A fraction's numerator stands as the first exponent, its denominator as the second significand.
 - A comparison answers -1, 0 or 1 as a sign and a significand.
-- The three-step sum, each step in the row's direction, answers x."""
+- The three-step sum, each step in the row's direction, answers x.
+- A line that ends with the publisher's inexact flag makes a row that asks for the mark alone and answers 0 or 1; patterns stand there as
+  numbers of binary32."""
 import os
 
 FILES = ["binary32_nearest.txt", "binary32_directions.txt", "decimal.txt", "fractions.txt", "scope.txt"]
+FLAGGED = ["inexact/binary32_directions.txt", "inexact/decimal.txt"]
 # the operations in the order of their numbers, which is that of `calls` in crates/vectors/specs/Calls.antt
 NUMBERS = ["sum", "diff", "prod", "quot", "frac", "cmp", "abs", "neg", "pred", "succ", "ufp"]
 PATTERNS = ["sum", "diff", "prod", "quot"]
-OPERATIONS = NUMBERS + ["pattern " + name for name in PATTERNS] + ["steps"]
+OPERATIONS = NUMBERS + ["pattern " + name for name in PATTERNS] + ["inexact " + name for name in PATTERNS] + ["steps"]
+BINARY32 = [2, 24, -149, 104]
 NOTHING = [0, 0, 0]
 
 
@@ -43,6 +47,24 @@ def number_row(call, answer):
     return [OPERATIONS.index(name)] + values[:5] + operands + answer_columns(*answer)
 
 
+def number_of(pattern):
+    bits = int(pattern, 16)
+    field, fraction = bits >> 23 & 255, bits & 2**23 - 1
+    sign, significand, exponent = bits >> 31, fraction + (2**23 if field else 0), max(field, 1) - 150
+    return [sign if significand else 0, significand, exponent]
+
+
+def flagged_row(line):
+    words = line.split()
+    flag = int(words.pop())
+    if words.index("->") == 4:
+        name, direction, a, b = words[:4]
+        values = BINARY32 + [int(direction)] + number_of(a) + number_of(b)
+    else:
+        name, values = words[0], [int(word) for word in words[1 : words.index("->")]]
+    return [OPERATIONS.index("inexact " + name)] + values + [0, 0, flag, 0]
+
+
 def row(line):
     words = line.split()
     arrow = words.index("->")
@@ -53,8 +75,8 @@ def row(line):
 
 here = os.path.dirname(os.path.abspath(__file__))
 with open(os.path.join(here, "../../crates/vectors/stdin"), "w") as out:
-    for name in FILES:
+    for name in FILES + FLAGGED:
         for line in open(os.path.join(here, name)):
-            columns = row(line)
+            columns = flagged_row(line) if name in FLAGGED else row(line)
             assert len(columns) == 16
             out.write(" ".join(f"{value % 2**64:016x}" for value in columns) + "\n")

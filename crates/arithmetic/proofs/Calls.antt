@@ -21,7 +21,7 @@ use Rattle.number.proofs.CheckLaws.{checked-passed, checks-end, pair-made}
 use Rattle.wide.proofs.Signs.{signed-times}
 use Rattle.arithmetic.specs.Operations.{roundedProduct, roundedQuotient, summed, subtracted, multiplied, divided}
 use Rattle.arithmetic.specs.Outcomes.{RoundedNumber, Outcome}
-use Rattle.arithmetic.proofs.Prepared.{divisor-positive, divisor-some, divisor-none}
+use Rattle.arithmetic.proofs.Prepared.{product-signed, divisor-positive, divisor-some, divisor-none}
 use Rattle.arithmetic.proofs.Outcome.{outcome-given, outcome-refused, outcome-only, rounded-outcome, roundedZ-outcome}
 
 -- what the checks ask: an admitted format, a direction and two numbers of the format
@@ -108,18 +108,9 @@ module _ (f : Format) (d : ℕ) (a b : Number) where
   unfolding subtracted
   subtracted-rounds = rounds (λ c. roundedZ-outcome (c .admits) (direction d) (value f a -ℤ value f b))
 
-  -- a × b × β ^ Emin
-  product-signed : signed (xor (a .negative) (b .negative)) (magnitude f a * magnitude f b * f .base ^ aboveZero (f .emin))
-      ≡ value f a *ℤ value f b *ℤ pos (f .base ^ aboveZero (f .emin))
-  unfolding value
-  product-signed =
-      sym
-      (ap (λ (z : ℤ). z *ℤ pos (f .base ^ aboveZero (f .emin))) (signed-times (a .negative) (b .negative) (magnitude f a) (magnitude f b))
-      ∙ scale-signed (xor (a .negative) (b .negative)) (magnitude f a * magnitude f b) (f .base ^ aboveZero (f .emin)))
-
   pub multiplied-rounds : CallRounds f d a b (value f a *ℤ value f b *ℤ pos (f .base ^ aboveZero (f .emin))) (f .base ^ belowZero (f .emin)) (multiplied f d a b)
   unfolding multiplied roundedProduct
-  multiplied-rounds = rounds (λ c. rw (← product-signed) (rounded-outcome (c .admits) (direction d) _ _ (pow-pos (c .admits .base-low) (belowZero (f .emin)))))
+  multiplied-rounds = rounds (λ c. rw (← product-signed f a b) (rounded-outcome (c .admits) (direction d) _ _ (pow-pos (c .admits .base-low) (belowZero (f .emin)))))
 
   -- ---- the quotient, by a divisor that is not zero
   pub divided-rounds : 1 ≤ b .significand

@@ -10,7 +10,7 @@ use Rattle.theory.proofs.Powers.{pow-add, pow-pos, pow-mono, pow-half}
 use Rattle.theory.proofs.Wide.{wide-pow}
 use Rattle.theory.proofs.Round.{round-exact}
 use Rattle.theory.proofs.Monotone.{Same, round-same}
-use Rattle.theory.proofs.Integers.{below, parts-eq, scale-above, scale-below, size-scale, size-signed, own-sign, scale-signed}
+use Rattle.theory.proofs.Integers.{below, parts-eq, scale-above, scale-below, size-scale, size-signed, own-sign, scale-signed, times-one}
 use Rattle.theory.proofs.Tests.{never, and-left, and-made, unless-passed, unless-failed}
 use Rattle.format.specs.declared.Format.{Format}
 use Rattle.format.specs.Formats.{admitted, highestPlace}
@@ -220,9 +220,6 @@ pub record Unchanged (f : Format) (n : ℤ) (r : Given Number) : Type 0 where
 module _ {f : Format} (ok : Admitted f) (low : aboveZero (f .emin) ≡ 0) (d : ℕ) (k : isDirection d ≡ true) where
   under-one : under f 1 ≡ 1
   under-one = rw (low, pow-zero) (omega arith)
-
-  times-one : (z : ℤ) → z *ℤ pos 1 ≡ z
-  times-one z = parts-eq (z *ℤ pos 1) z (omega (arith, scale-above z 1, scale-below z 1))
 
   -- a number of |n| / β ^ Emin units is |n|, without the unit
   plain-size : {x : Number} (n : ℤ) → Member f x → magnitude f x ≡ over f n

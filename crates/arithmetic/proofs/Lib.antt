@@ -9,3 +9,5 @@ pub mod Calls
 pub mod Algebra
 pub mod Enclosure
 pub mod FractionLaws
+-- what the marks say
+pub mod MarkLaws

@@ -1,32 +1,39 @@
 -- From a prepared format to the wide format and back: a number of the format is an operand there, and a result that comes back
 -- is the exact value, rounded and delivered.
-use Rattle.theory.proofs.Prelude.{ℕ, _≤_, _<_, _+_, _^_, _*_, suc, zero, true, false, Bool, cond, not, xor, _∙_, ap, _≡_, sym, refl, ap₂, mul-pos, arith, ℤ, pos, _+ℤ_, natAbs, _-ℤ_, negsuc, negℤ, +ℤ-comm, ltZ, ne-eqb, eq-eqb}
+use Rattle.theory.proofs.Prelude.{ℕ, _≤_, _<_, _+_, _^_, _*_, suc, zero, true, false, Bool, cond, not, xor, _∙_, ap, _≡_, sym, refl, ap₂, mul-pos, arith, ℤ, pos, _+ℤ_, natAbs, _-ℤ_, negsuc, negℤ, _*ℤ_, +ℤ-comm, leb, ltZ, ne-eqb, eq-eqb}
 use Rattle.theory.specs.declared.Direction.{Direction}
-use Rattle.theory.specs.Signed.{isNegative, roundZ}
-use Rattle.theory.specs.Wide.{Canonical}
+use Rattle.theory.specs.declared.Mark.{Mark}
+use Rattle.theory.specs.Marks.{mark}
+use Rattle.theory.specs.Tests.{unless}
+use Rattle.theory.specs.Signed.{signed, isNegative, roundZ}
+use Rattle.theory.specs.Wide.{Canonical, Wide as WideN}
 use Rattle.theory.proofs.Powers.{pow-pos}
-use Rattle.theory.proofs.Integers.{above, below, size-parts, diff-parts}
+use Rattle.theory.proofs.Integers.{above, below, size-parts, diff-parts, own-sign, scale-signed}
 use Rattle.format.specs.declared.Format.{Format}
 use Rattle.format.specs.declared.Prepared.{Prepared}
-use Rattle.format.specs.Given.{Given, gives, refused}
+use Rattle.format.specs.Given.{Given, gives, refused, refusedAt}
 use Rattle.format.specs.Formats.{Scaled, scaleOf}
 use Rattle.format.proofs.Signed.{Upto, apart, lt-true, lt-false}
 use Rattle.format.proofs.Formats.{Admitted, positional, scaled}
 use Rattle.number.specs.declared.Number.{Number}
 use Rattle.number.specs.Checks.{Usable, Operands}
 use Rattle.number.specs.Exponents.{aboveZero, belowZero}
-use Rattle.number.specs.Numbers.{member, placeOf, magnitude, value, number, delivered}
+use Rattle.number.specs.Numbers.{member, placeOf, magnitude, value, greatest, number, delivered}
 use Rattle.number.specs.Signs.{withSign}
 use Rattle.number.proofs.Membership.{Member, members, member-made, known}
-use Rattle.number.proofs.Values.{member-canonical, member-highest, highest-most, delivered-same, number-of}
+use Rattle.number.proofs.Values.{member-canonical, member-highest, highest-most, delivered-same, number-of, number-value}
 use Rattle.number.proofs.Negation.{signed-member, negated-value}
 use Rattle.rounding.specs.declared.Wide.{Wide}
+use Rattle.rounding.specs.declared.Rounding.{Rounding}
 use Rattle.rounding.specs.Cut.{Rounds}
 use Rattle.wide.specs.Operand.{Bounded, sizeOf, valueOf}
 use Rattle.wide.specs.Sum.{RoundsZ}
 use Rattle.wide.proofs.Results.{sum-value}
+use Rattle.wide.proofs.Signs.{signed-times}
 use Rattle.arithmetic.specs.Operands.{wideOf}
-use Rattle.arithmetic.specs.Operations.{rounded, roundedZ, roundedSum, roundedProduct, roundedQuotient, roundedFraction}
+use Rattle.arithmetic.specs.Operations.{rounded, roundedZ, roundedProduct, roundedQuotient, roundedFraction}
+use Rattle.arithmetic.specs.declared.Rounded.{Rounded}
+use Rattle.arithmetic.specs.Marked.{withoutMark, withMark, marked, markedSum, markedProduct, markedQuotient, markedFraction}
 
 -- ---- the parts of Emin
 pub parts-above : (z : ℤ) → aboveZero z ≡ above z
@@ -94,10 +101,52 @@ module _ {f : Format} (ok : Admitted f) (b : Number) {y : Number} (m : member f 
   pub turned-value : value f y ≡ negℤ (value f b)
   turned-value = rw turned (negated-value ok (members b ok m))
 
--- the format delivers the wide result w as what is given
-pub record Delivers (f : Format) (w : Wide) (g : Given Number) : Type 0 where
-  pub canonical : Canonical (f .base) (f .digits) (w .significand) (w .place)
-  pub is : delivered f (w .negative) (sizeOf (f .base) w) ≡ g
+-- ---- exact results with their signs
+-- a × b × β ^ Emin
+pub product-signed : (f : Format) (a b : Number) → signed (xor (a .negative) (b .negative)) (magnitude f a * magnitude f b * f .base ^ aboveZero (f .emin))
+    ≡ value f a *ℤ value f b *ℤ pos (f .base ^ aboveZero (f .emin))
+unfolding value
+product-signed f a b =
+    sym
+    (ap (λ (z : ℤ). z *ℤ pos (f .base ^ aboveZero (f .emin))) (signed-times (a .negative) (b .negative) (magnitude f a) (magnitude f b))
+    ∙ scale-signed (xor (a .negative) (b .negative)) (magnitude f a * magnitude f b) (f .base ^ aboveZero (f .emin)))
+
+-- n / β ^ Emin
+pub fraction-signed : (f : Format) (n : ℤ) → signed (isNegative n) (natAbs n * f .base ^ belowZero (f .emin)) ≡ n *ℤ pos (f .base ^ belowZero (f .emin))
+fraction-signed f n =
+    sym (scale-signed (isNegative n) (natAbs n) (f .base ^ belowZero (f .emin))) ∙ ap (λ (z : ℤ). z *ℤ pos (f .base ^ belowZero (f .emin))) (own-sign n)
+
+-- ---- what is delivered, with its mark
+pub marked-number : (f : Format) (N : ℤ) (D : ℕ) (g : Given Number) → withoutMark (marked f N D g) ≡ g
+unfolding marked
+marked-number f N D (gives x) = refl
+marked-number f N D (refused n) = refl
+marked-number f N D (refusedAt n i) = refl
+
+-- a mark that is true of the magnitude is that of the number
+mark-delivered : {f : Format} → Admitted f → (negative : Bool) {n : ℕ} → WideN (f .base) (f .digits) n → (N : ℤ) (D : ℕ) {t : Mark} → t ≡ mark (signed negative n) N D
+    → withMark t (delivered f negative n) ≡ marked f N D (delivered f negative n)
+unfolding delivered marked unless
+mark-delivered {f} a negative {n} w N D {t} e = by (leb n (greatest f))
+  where
+    by : (b : Bool) → withMark t (unless b (refused 5) (gives (number f negative n))) ≡ marked f N D (unless b (refused 5) (gives (number f negative n)))
+    by true = ap (λ (m : Mark). gives (record { number = number f negative n; mark = m })) (e ∙ ap (λ (v : ℤ). mark v N D) (sym (number-value a w negative)))
+    by false = refl
+
+-- the format delivers the wide result r as what is given
+pub record Delivers (f : Format) (r : Rounding) (g : Given Rounded) : Type 0 where
+  pub canonical : Canonical (f .base) (f .digits) (r .wide .significand) (r .wide .place)
+  pub is : withMark (r .mark) (delivered f (r .wide .negative) (sizeOf (f .base) (r .wide))) ≡ g
+
+delivers : {f : Format} → Admitted f → {r : Rounding} → Canonical (f .base) (f .digits) (r .wide .significand) (r .wide .place)
+    → (N : ℤ) (D : ℕ) → r .mark ≡ mark (valueOf (f .base) (r .wide)) N D → {g : Given Number} → delivered f (r .wide .negative) (sizeOf (f .base) (r .wide)) ≡ g
+    → Delivers f r (marked f N D g)
+delivers {f} a {r} c N D m e =
+    record {
+      canonical = c;
+      is = mark-delivered a (r .wide .negative) (record { significand = r .wide .significand; exponent = r .wide .place; small = c .small; is = refl }) N D m
+          ∙ ap (marked f N D) e;
+    }
 
 module _ {q : Prepared} (u : Usable q) where
   pub scale-is : q .scale ≡ scaleOf (q .format)
@@ -113,44 +162,47 @@ module _ {q : Prepared} (u : Usable q) where
       rw (e, scale-is) (record { canonical = member-canonical ok i; place-most = omega (arith, member-highest ok i, highest-most ok) })
 
   -- ---- a result of the wide format, delivered
-  rounds-delivers : {d : Direction} {negative : Bool} {N D : ℕ} {w : Wide} → Rounds (q .format .base) (q .format .digits) d negative N D w
-      → Delivers (q .format) w (rounded (q .format) d negative N D)
+  rounds-delivers : {d : Direction} {negative : Bool} {N D : ℕ} {r : Rounding} → Rounds (q .format .base) (q .format .digits) d negative N D r
+      → Delivers (q .format) r (marked (q .format) (signed negative N) D (rounded (q .format) d negative N D))
   unfolding rounded
-  rounds-delivers h = record { canonical = h .canonical; is = ap₂ (delivered (q .format)) (h .sign) (h .size) }
+  rounds-delivers {negative = negative} {N = N} {D = D} {r = r} h =
+      delivers (known u .admits) (h .canonical) (signed negative N) D
+      (h .marked ∙ ap (λ (s : Bool). mark (signed s (sizeOf (q .format .base) (r .wide))) (signed negative N) D) (sym (h .sign)))
+      (ap₂ (delivered (q .format)) (h .sign) (h .size))
 
-  sum-delivers : {d : Direction} (z : ℤ) {w : Wide} → RoundsZ (q .format .base) (q .format .digits) d z w → Delivers (q .format) w (roundedZ (q .format) d z)
+  sum-delivers : {d : Direction} (z : ℤ) {r : Rounding} → RoundsZ (q .format .base) (q .format .digits) d z r
+      → Delivers (q .format) r (marked (q .format) z 1 (roundedZ (q .format) d z))
   unfolding roundedZ rounded roundZ
-  sum-delivers z {w} h =
-      record {
-        canonical = h .rounds .canonical;
-        is = delivered-same (q .format) (w .negative) (isNegative z) (sizeOf (q .format .base) w) _ (sum-value (positional (known u .admits)) z h);
-      }
+  sum-delivers z {r} h =
+      delivers (known u .admits) (h .rounds .canonical) z 1
+      (h .rounds .marked ∙ ap (λ (v : ℤ). mark (valueOf (q .format .base) (r .wide)) v 1) (sym (h .sign)))
+      (delivered-same (q .format) (r .wide .negative) (isNegative z) (sizeOf (q .format .base) (r .wide)) _ (sum-value (positional (known u .admits)) z h))
 
   module _ (d : Direction) (a b : Number) {x y : Wide} (ex : x ≡ wideOf (q .format) a) (ey : y ≡ wideOf (q .format) b) where
-    pub add-delivers : {w : Wide} → RoundsZ (q .scale .base) (q .scale .digits) d (valueOf (q .scale .base) x +ℤ valueOf (q .scale .base) y) w
-        → Delivers (q .format) w (roundedSum (q .format) d a b)
+    pub add-delivers : {r : Rounding} → RoundsZ (q .scale .base) (q .scale .digits) d (valueOf (q .scale .base) x +ℤ valueOf (q .scale .base) y) r
+        → Delivers (q .format) r (markedSum (q .format) d a b)
     unfolding value magnitude
     add-delivers h = sum-delivers _ (rw (ex, ey, scale-is) at h)
 
-    module _ {up down : ℕ} {w : Wide} where
+    module _ {up down : ℕ} {r : Rounding} where
       pub product-delivers : up ≡ aboveZero (q .format .emin) → down ≡ belowZero (q .format .emin)
-          → Rounds (q .scale .base) (q .scale .digits) d (xor (x .negative) (y .negative)) (sizeOf (q .scale .base) x * sizeOf (q .scale .base) y * q .scale .base ^ up) (q .scale .base ^ down) w
-          → Delivers (q .format) w (roundedProduct (q .format) d a b)
+          → Rounds (q .scale .base) (q .scale .digits) d (xor (x .negative) (y .negative)) (sizeOf (q .scale .base) x * sizeOf (q .scale .base) y * q .scale .base ^ up) (q .scale .base ^ down) r
+          → Delivers (q .format) r (markedProduct (q .format) d a b)
       unfolding roundedProduct magnitude
-      product-delivers eu ed h = rounds-delivers (rw (ex, ey, eu, ed, scale-is) at h)
+      product-delivers eu ed h = rw (← product-signed (q .format) a b) (rounds-delivers (rw (ex, ey, eu, ed, scale-is) at h))
 
       pub quotient-delivers : 1 ≤ b .significand → up ≡ belowZero (q .format .emin) → down ≡ aboveZero (q .format .emin)
-          → Rounds (q .scale .base) (q .scale .digits) d (xor (x .negative) (y .negative)) (sizeOf (q .scale .base) x * q .scale .base ^ up) (sizeOf (q .scale .base) y * q .scale .base ^ down) w
-          → Delivers (q .format) w (roundedQuotient (q .format) d a b)
+          → Rounds (q .scale .base) (q .scale .digits) d (xor (x .negative) (y .negative)) (sizeOf (q .scale .base) x * q .scale .base ^ up) (sizeOf (q .scale .base) y * q .scale .base ^ down) r
+          → Delivers (q .format) r (markedQuotient (q .format) d a b)
       unfolding magnitude
       quotient-delivers some eu ed h = rw (divisor-some (known u .admits) d a b some) (rounds-delivers (rw (ex, ey, eu, ed, scale-is) at h))
 
-  pub fraction-delivers : (d : Direction) (n : ℤ) {m up down k : ℕ} {negative : Bool} {w : Wide} → 1 ≤ m
+  pub fraction-delivers : (d : Direction) (n : ℤ) {m up down k : ℕ} {negative : Bool} {r : Rounding} → 1 ≤ m
       → up ≡ belowZero (q .format .emin) → down ≡ aboveZero (q .format .emin) → negative ≡ isNegative n → k ≡ natAbs n
-      → Rounds (q .scale .base) (q .scale .digits) d negative (k * q .scale .base ^ up) (m * q .scale .base ^ down) w
-      → Delivers (q .format) w (roundedFraction (q .format) d n m)
+      → Rounds (q .scale .base) (q .scale .digits) d negative (k * q .scale .base ^ up) (m * q .scale .base ^ down) r
+      → Delivers (q .format) r (markedFraction (q .format) d n m)
   fraction-delivers d n some eu ed es ek h =
-      rw (denominator-some (q .format) d n some) (rounds-delivers (rw (es, ek, eu, ed, scale-is) at h))
+      rw (denominator-some (q .format) d n some, ← fraction-signed (q .format) n) (rounds-delivers (rw (es, ek, eu, ed, scale-is) at h))
 
 -- ---- two numbers in the order of their exponents
 pub record Aligned (q : Prepared) (a b high low : Number) : Type 0 where

@@ -1,4 +1,5 @@
 -- What the four operations and the fraction answer.
 pub mod Operands
 pub mod Operations
+pub mod Marked
 pub mod Outcomes

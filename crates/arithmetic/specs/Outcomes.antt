@@ -5,10 +5,12 @@ use mathlib.Core.Bool.{true}
 use lib.IntN.{ℤ, natAbs}
 use Rattle.theory.specs.declared.Direction.{Direction}
 use Rattle.theory.specs.Signed.{roundZ}
+use Rattle.theory.specs.Marks.{mark, MultipliedOut}
 use Rattle.format.specs.declared.Format.{Format}
 use Rattle.format.specs.Given.{Given, gives, refused}
 use Rattle.number.specs.declared.Number.{Number}
 use Rattle.number.specs.Numbers.{member, value, greatest}
+use Rattle.arithmetic.specs.declared.Rounded.{Rounded}
 
 -- x is a number of the format, and its value is N / D units, rounded in the direction d
 pub record RoundedNumber (f : Format) (d : Direction) (N : ℤ) (D : ℕ) (x : Number) : Type 0 where
@@ -21,3 +23,9 @@ pub record RoundedNumber (f : Format) (d : Direction) (N : ℤ) (D : ℕ) (x : N
 pub data Outcome (f : Format) (d : Direction) (N : ℤ) (D : ℕ) : Given Number → Type 0 where
   given : {x : Number} → RoundedNumber f d N D x → Outcome f d N D (gives x)
   too-large : greatest f < natAbs (roundZ (f .base) (f .digits) d N D) → Outcome f d N D (refused 5)
+
+-- that number with its mark, which multiplied out is true of N / D
+pub record MarkedNumber (f : Format) (d : Direction) (N : ℤ) (D : ℕ) (r : Rounded) : Type 0 where
+  pub rounded : RoundedNumber f d N D (r .number)
+  pub marked : r .mark ≡ mark (value f (r .number)) N D
+  pub multiplied : MultipliedOut (value f (r .number)) N D (r .mark)

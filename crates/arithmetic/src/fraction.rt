@@ -1,4 +1,5 @@
 // A fraction of whole numbers.
+use crate::RoundedAnswer;
 use crate::operands::deliver_wide;
 use format::Format;
 use format::Preparation;
@@ -6,7 +7,6 @@ use format::Prepared;
 use format::Refusal;
 use format::admission::prepare;
 use format::directions::direction_of;
-use number::NumberAnswer;
 use number::checks::with_direction;
 use number::exponents::above_zero;
 use number::exponents::below_zero;
@@ -14,9 +14,8 @@ use theory::Direction;
 ghost use mathlib.Core.Path.{_≡_};
 ghost use lib.IntN.{natAbs};
 ghost use Rattle.theory.specs.Signed.{isNegative};
-ghost use Rattle.number.specs.Answers.{numberGiven};
 ghost use Rattle.number.specs.Checks.{Usable};
-ghost use Rattle.arithmetic.specs.Operations.{roundedFraction, fractioned};
+ghost use Rattle.arithmetic.specs.Marked.{roundedGiven, markedFraction, fractionAnswer};
 
 // |n|, which is 2^31 for the least n: n + 1 has a negation of 32 bits.
 fn size(n: i32) -> u32
@@ -33,17 +32,17 @@ fn is_below_zero(n: i32) -> bool
 }
 
 // numerator / denominator, in a format that was prepared. Refuses 4, 5.
-pub fn divide_whole(
+fn divide_whole(
     prepared: Prepared,
     direction: Direction,
     numerator: i32,
     denominator: u32,
-) -> NumberAnswer
+) -> RoundedAnswer
     requires { ⌜ Usable prepared ⌝ }
-    ensures { λ r. ⌜ numberGiven r ≡ roundedFraction (prepared .format) direction numerator denominator ⌝ }
+    ensures { λ r. ⌜ roundedGiven r ≡ markedFraction (prepared .format) direction numerator denominator ⌝ }
 {
     if denominator == 0 {
-        return NumberAnswer::Refused(Refusal::DivisorZero);
+        return RoundedAnswer::Refused(Refusal::DivisorZero);
     }
     let scale = prepared.scale;
     let up = below_zero(prepared.format.emin);
@@ -57,11 +56,11 @@ pub fn divide_whole(
 }
 
 // numerator / denominator. Refuses 1, 2, 4, 5.
-pub fn fraction(format: Format, direction: u32, numerator: i32, denominator: u32) -> NumberAnswer
-    ensures { λ r. ⌜ numberGiven r ≡ fractioned format direction numerator denominator ⌝ }
+pub fn fraction(format: Format, direction: u32, numerator: i32, denominator: u32) -> RoundedAnswer
+    ensures { λ r. ⌜ roundedGiven r ≡ fractionAnswer format direction numerator denominator ⌝ }
 {
     match with_direction(prepare(format), direction) {
-        Preparation::Refused(why) => NumberAnswer::Refused(why),
+        Preparation::Refused(why) => RoundedAnswer::Refused(why),
         Preparation::Ready(prepared) => {
             divide_whole(prepared, direction_of(direction), numerator, denominator)
         }

@@ -1,9 +1,12 @@
 // Numbers of a format as numbers of the wide format, and back.
+use crate::Rounded;
+use crate::RoundedAnswer;
 use format::Prepared;
 use format::admission::distance;
 use number::Number;
 use number::NumberAnswer;
 use number::delivery::deliver;
+use rounding::Rounding;
 use rounding::Wide;
 ghost use mathlib.Core.Path.{_≡_};
 ghost use Rattle.theory.specs.Wide.{Canonical};
@@ -12,6 +15,7 @@ ghost use Rattle.number.specs.Answers.{numberGiven};
 ghost use Rattle.number.specs.Checks.{Usable, Operand};
 ghost use Rattle.wide.specs.Operand.{sizeOf};
 ghost use Rattle.arithmetic.specs.Operands.{wideOf};
+ghost use Rattle.arithmetic.specs.Marked.{roundedGiven, withMark, withoutMark};
 
 // x, with the place that its exponent has above emin.
 pub fn wide_of(prepared: Prepared, x: Number) -> Wide
@@ -26,10 +30,31 @@ pub fn wide_of(prepared: Prepared, x: Number) -> Wide
     }
 }
 
-// A result as a number of the format, or refusal 5 above the greatest number.
-pub fn deliver_wide(prepared: Prepared, result: Wide) -> NumberAnswer
-    requires { ⌜ Usable prepared × Canonical (prepared .format .base) (prepared .format .digits) (result .significand) (result .place) ⌝ }
-    ensures { λ r. ⌜ numberGiven r ≡ delivered (prepared .format) (result .negative) (sizeOf (prepared .format .base) result) ⌝ }
+// A result as a number of the format, with its mark, or refusal 5 above the greatest number.
+pub fn deliver_wide(prepared: Prepared, result: Rounding) -> RoundedAnswer
+    requires { ⌜ Usable prepared × Canonical (prepared .format .base) (prepared .format .digits) (result .wide .significand) (result .wide .place) ⌝ }
+    ensures { λ r. ⌜ roundedGiven r ≡ withMark (result .mark) (delivered (prepared .format) (result .wide .negative) (sizeOf (prepared .format .base) (result .wide))) ⌝ }
 {
-    deliver(prepared, result.negative, result.significand, result.place)
+    let wide = result.wide;
+    let mark = result.mark;
+    match deliver(prepared, wide.negative, wide.significand, wide.place) {
+        NumberAnswer::Value(number) => RoundedAnswer::Value(Rounded {
+            number: number,
+            mark: mark,
+        }),
+        NumberAnswer::Refused(why) => RoundedAnswer::Refused(why),
+    }
+}
+
+// The number without its mark: the three-step sum, its check, the routes and the pattern calls go on with it.
+pub fn unmarked(answer: RoundedAnswer) -> NumberAnswer
+    ensures { λ r. ⌜ numberGiven r ≡ withoutMark (roundedGiven answer) ⌝ }
+{
+    match answer {
+        RoundedAnswer::Value(rounded) => {
+            let number = rounded.number;
+            NumberAnswer::Value(number)
+        }
+        RoundedAnswer::Refused(why) => NumberAnswer::Refused(why),
+    }
 }

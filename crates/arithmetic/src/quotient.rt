@@ -1,5 +1,7 @@
 // The quotient.
+use crate::RoundedAnswer;
 use crate::operands::deliver_wide;
+use crate::operands::unmarked;
 use crate::operands::wide_of;
 use format::Format;
 use format::Preparation;
@@ -17,15 +19,16 @@ use theory::Direction;
 ghost use mathlib.Core.Path.{_≡_};
 ghost use Rattle.number.specs.Answers.{numberGiven};
 ghost use Rattle.number.specs.Checks.{Operands};
-ghost use Rattle.arithmetic.specs.Operations.{roundedQuotient, divided};
+ghost use Rattle.arithmetic.specs.Operations.{roundedQuotient};
+ghost use Rattle.arithmetic.specs.Marked.{roundedGiven, markedQuotient, quotientAnswer};
 
 // a / b, in a format that was prepared. Refuses 4, 5.
-pub fn divide(prepared: Prepared, direction: Direction, a: Number, b: Number) -> NumberAnswer
+fn marked_quotient(prepared: Prepared, direction: Direction, a: Number, b: Number) -> RoundedAnswer
     requires { ⌜ Operands prepared a b ⌝ }
-    ensures { λ r. ⌜ numberGiven r ≡ roundedQuotient (prepared .format) direction a b ⌝ }
+    ensures { λ r. ⌜ roundedGiven r ≡ markedQuotient (prepared .format) direction a b ⌝ }
 {
     if b.significand == 0 {
-        return NumberAnswer::Refused(Refusal::DivisorZero);
+        return RoundedAnswer::Refused(Refusal::DivisorZero);
     }
     let scale = prepared.scale;
     let x = wide_of(prepared, a);
@@ -38,13 +41,21 @@ pub fn divide(prepared: Prepared, direction: Direction, a: Number, b: Number) ->
     )
 }
 
+// The same without the mark.
+pub fn divide(prepared: Prepared, direction: Direction, a: Number, b: Number) -> NumberAnswer
+    requires { ⌜ Operands prepared a b ⌝ }
+    ensures { λ r. ⌜ numberGiven r ≡ roundedQuotient (prepared .format) direction a b ⌝ }
+{
+    unmarked(marked_quotient(prepared, direction, a, b))
+}
+
 // a / b. Refuses 1, 2, 3, 4, 5.
-pub fn quotient(format: Format, direction: u32, a: Number, b: Number) -> NumberAnswer
-    ensures { λ r. ⌜ numberGiven r ≡ divided format direction a b ⌝ }
+pub fn quotient(format: Format, direction: u32, a: Number, b: Number) -> RoundedAnswer
+    ensures { λ r. ⌜ roundedGiven r ≡ quotientAnswer format direction a b ⌝ }
 {
     let directed = with_direction(prepare(format), direction);
     match with_number(with_number(directed, b), a) {
-        Preparation::Refused(why) => NumberAnswer::Refused(why),
-        Preparation::Ready(prepared) => divide(prepared, direction_of(direction), a, b),
+        Preparation::Refused(why) => RoundedAnswer::Refused(why),
+        Preparation::Ready(prepared) => marked_quotient(prepared, direction_of(direction), a, b),
     }
 }

@@ -1,5 +1,7 @@
 // The sum and the difference.
+use crate::RoundedAnswer;
 use crate::operands::deliver_wide;
+use crate::operands::unmarked;
 use crate::operands::wide_of;
 use format::Format;
 use format::Preparation;
@@ -19,7 +21,8 @@ ghost use mathlib.Core.Path.{_≡_};
 ghost use mathlib.Core.Bool.{cond};
 ghost use Rattle.number.specs.Answers.{numberGiven};
 ghost use Rattle.number.specs.Checks.{Operands};
-ghost use Rattle.arithmetic.specs.Operations.{roundedSum, roundedDifference, summed, subtracted};
+ghost use Rattle.arithmetic.specs.Operations.{roundedSum, roundedDifference};
+ghost use Rattle.arithmetic.specs.Marked.{roundedGiven, markedSum, markedDifference, sumAnswer, differenceAnswer};
 
 // One of two numbers, selected field by field: which of them has the higher exponent is not predictable.
 fn select(test: bool, yes: Number, no: Number) -> Number
@@ -40,9 +43,9 @@ fn select(test: bool, yes: Number, no: Number) -> Number
 }
 
 // a + b, in a format that was prepared. The alignment distance is the difference of the two exponents. Refuses 5.
-pub fn add(prepared: Prepared, direction: Direction, a: Number, b: Number) -> NumberAnswer
+pub fn marked_sum(prepared: Prepared, direction: Direction, a: Number, b: Number) -> RoundedAnswer
     requires { ⌜ Operands prepared a b ⌝ }
-    ensures { λ r. ⌜ numberGiven r ≡ roundedSum (prepared .format) direction a b ⌝ }
+    ensures { λ r. ⌜ roundedGiven r ≡ markedSum (prepared .format) direction a b ⌝ }
 {
     let turned = a.exponent < b.exponent;
     let high = select(turned, b, a);
@@ -59,31 +62,53 @@ pub fn add(prepared: Prepared, direction: Direction, a: Number, b: Number) -> Nu
 }
 
 // a - b, in a format that was prepared. Refuses 5.
+fn marked_difference(
+    prepared: Prepared,
+    direction: Direction,
+    a: Number,
+    b: Number,
+) -> RoundedAnswer
+    requires { ⌜ Operands prepared a b ⌝ }
+    ensures { λ r. ⌜ roundedGiven r ≡ markedDifference (prepared .format) direction a b ⌝ }
+{
+    marked_sum(prepared, direction, a, with_sign(b, !b.negative))
+}
+
+// The same without their marks.
+pub fn add(prepared: Prepared, direction: Direction, a: Number, b: Number) -> NumberAnswer
+    requires { ⌜ Operands prepared a b ⌝ }
+    ensures { λ r. ⌜ numberGiven r ≡ roundedSum (prepared .format) direction a b ⌝ }
+{
+    unmarked(marked_sum(prepared, direction, a, b))
+}
+
 pub fn subtract(prepared: Prepared, direction: Direction, a: Number, b: Number) -> NumberAnswer
     requires { ⌜ Operands prepared a b ⌝ }
     ensures { λ r. ⌜ numberGiven r ≡ roundedDifference (prepared .format) direction a b ⌝ }
 {
-    add(prepared, direction, a, with_sign(b, !b.negative))
+    unmarked(marked_difference(prepared, direction, a, b))
 }
 
 // a + b. Refuses 1, 2, 3, 5.
-pub fn sum(format: Format, direction: u32, a: Number, b: Number) -> NumberAnswer
-    ensures { λ r. ⌜ numberGiven r ≡ summed format direction a b ⌝ }
+pub fn sum(format: Format, direction: u32, a: Number, b: Number) -> RoundedAnswer
+    ensures { λ r. ⌜ roundedGiven r ≡ sumAnswer format direction a b ⌝ }
 {
     let directed = with_direction(prepare(format), direction);
     match with_number(with_number(directed, b), a) {
-        Preparation::Refused(why) => NumberAnswer::Refused(why),
-        Preparation::Ready(prepared) => add(prepared, direction_of(direction), a, b),
+        Preparation::Refused(why) => RoundedAnswer::Refused(why),
+        Preparation::Ready(prepared) => marked_sum(prepared, direction_of(direction), a, b),
     }
 }
 
 // a - b. Refuses 1, 2, 3, 5.
-pub fn difference(format: Format, direction: u32, a: Number, b: Number) -> NumberAnswer
-    ensures { λ r. ⌜ numberGiven r ≡ subtracted format direction a b ⌝ }
+pub fn difference(format: Format, direction: u32, a: Number, b: Number) -> RoundedAnswer
+    ensures { λ r. ⌜ roundedGiven r ≡ differenceAnswer format direction a b ⌝ }
 {
     let directed = with_direction(prepare(format), direction);
     match with_number(with_number(directed, b), a) {
-        Preparation::Refused(why) => NumberAnswer::Refused(why),
-        Preparation::Ready(prepared) => subtract(prepared, direction_of(direction), a, b),
+        Preparation::Refused(why) => RoundedAnswer::Refused(why),
+        Preparation::Ready(prepared) => {
+            marked_difference(prepared, direction_of(direction), a, b)
+        }
     }
 }

@@ -19,6 +19,7 @@ use Rattle.format.specs.Published.{binary32}
 use Rattle.format.proofs.Signed.{Upto, le-true, le-false, make-le, make-lt, make-ge}
 use Rattle.format.proofs.Formats.{scaled}
 use Rattle.rounding.specs.declared.Wide.{Wide}
+use Rattle.rounding.specs.declared.Rounding.{Rounding}
 use Rattle.wide.specs.Operand.{Bounded, sizeOf, valueOf}
 use Rattle.wide.specs.Sum.{RoundsZ}
 use Rattle.wide.proofs.Results.{sum-value, sum-place}
@@ -41,7 +42,7 @@ module _ {s : Scale} (e : s ≡ scaleOf binary32) where
   pub bounded-here : {k : ℕ} {x : Wide} → k < 2 ^ 28 → Placed k x → Bounded s x
   bounded-here l h = rw e (record { canonical = h .canonical; place-most = omega (arith, h .place-most) })
 
-  pub sum-here : (d : Direction) (x y : Wide) {r : Wide} → RoundsZ (s .base) (s .digits) d (valueOf (s .base) x +ℤ valueOf (s .base) y) r → SumOf d x y r
+  pub sum-here : (d : Direction) (x y : Wide) {r : Rounding} → RoundsZ (s .base) (s .digits) d (valueOf (s .base) x +ℤ valueOf (s .base) y) r → SumOf d x y (r .wide)
   sum-here d x y {r} h =
       let z : RoundsZ 2 24 d (valueOf 2 x +ℤ valueOf 2 y) r = rw e at h in
       record {

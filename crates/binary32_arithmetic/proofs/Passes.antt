@@ -1,5 +1,5 @@
 -- What the passes over two slices compute: the first refused entry, and one sum more.
-use Rattle.theory.proofs.Prelude.{ℕ, _<_, _+_, suc, zero, false, [], _∷_, List, _++_, append-assoc, ap, _≡_, sym, refl, add-one, arith, length, getD, drop, take, set, drop-cons, drop-length}
+use Rattle.theory.proofs.Prelude.{ℕ, _≤_, _<_, _+_, suc, zero, true, false, Bool, [], _∷_, List, _++_, append-assoc, ap, _≡_, sym, refl, add-one, arith, length, getD, drop, take, set, drop-cons, drop-length}
 use lib.ListN.{List·getD-eq-default}
 use lib.Seq.{take-suc-set}
 use Rattle.theory.specs.Lists.{firstWhere}
@@ -8,8 +8,18 @@ use Rattle.theory.proofs.Lists.{first-is, first-none}
 use Rattle.format.specs.Given.{Given, gives, refused, refusedAt}
 use Rattle.format.proofs.GivenLaws.{gives-not-refused, gives-not-refused-at}
 use Rattle.binary32_arithmetic.specs.declared.Operation.the-variants.{Sum}
+use Rattle.theory.specs.Tests.{_and_, unless}
+use Rattle.format.specs.Published.{binary32}
+use Rattle.arithmetic.specs.Operations.{roundedSum}
+use Rattle.arithmetic.specs.Marked.{markedSum, withoutMark}
+use Rattle.arithmetic.proofs.Prepared.{marked-number}
+use Rattle.binary32.specs.Patterns.{finite, numberRead, answerWritten}
 use Rattle.binary32_arithmetic.specs.Calls.{onPatterns}
-use Rattle.binary32_arithmetic.specs.Slices.{passes, isRefused, answerAt, entries, firstRefused, written, sums}
+use Rattle.theory.specs.declared.Mark.{Mark}
+use Rattle.theory.specs.declared.Mark.the-variants.{Exact, Low, High}
+use Rattle.theory.specs.Marks.{inexact}
+use Rattle.arithmetic.specs.declared.Rounded.{Rounded}
+use Rattle.binary32_arithmetic.specs.Slices.{passes, isRefused, entries, firstRefused, written, sums, markedEntry, inexactIn, inexactEntries}
 
 -- ---- an entry, passed or refused
 pub passed-entry : (g : Given ℕ) → passes g ≡ gives tt → isRefused g ≡ false
@@ -47,16 +57,6 @@ pub refused-nowhere : (es : List (Given ℕ)) → ((k : ℕ) → k < length es �
 unfolding firstRefused
 refused-nowhere es b = rw (first-none isRefused (gives 0) es b, List·getD-eq-default es (gives 0) {n = length es} (omega arith))
 
--- it never answers a refusal without an index
-pub never-plain : (es : List (Given ℕ)) {k : ℕ} → firstRefused es ≡ refused k → ⊥
-unfolding firstRefused
-never-plain es h = by (getD es (firstWhere isRefused es) (gives 0)) (firstWhere isRefused es) h
-  where
-    by : (g : Given ℕ) (i : ℕ) {k : ℕ} → answerAt g i ≡ refused k → ⊥
-    by (gives n) i e = gives-not-refused e
-    by (refused m) i e = let z : _≡_ {A = ℕ} 0 1 = cc in omega arith
-    by (refusedAt m j) i e = let z : _≡_ {A = ℕ} 0 1 = cc in omega arith
-
 -- ---- the second pass
 module _ (d : Direction) (i : ℕ) (a b : List ℕ) (h : i < length a) (e : length a ≡ length b) where
   pub sums-step : sums d (drop i a) (drop i b) ≡ written (onPatterns Sum d (getD a i 0) (getD b i 0)) ∷ sums d (drop (i + 1) a) (drop (i + 1) b)
@@ -76,3 +76,34 @@ pub written-step : (d : Direction) (i v : ℕ) (a b out : List ℕ) → i < leng
     take (i + 1) (set out i v) ++ sums d (drop (i + 1) a) (drop (i + 1) b) ≡ take i out ++ sums d (drop i a) (drop i b)
 written-step d i v a b out h e g q =
     rw (sums-step d i a b h e, add-one, take-suc-set out i v (omega arith), append-assoc, q)
+
+-- the entries that are not exact so far, and then those of the rest
+module _ (d : Direction) (i : ℕ) (a b : List ℕ) where
+  pub inexact-step : i < length a → length a ≡ length b → inexactEntries d (drop i a) (drop i b)
+      ≡ inexactIn (markedEntry d (getD a i 0) (getD b i 0)) + inexactEntries d (drop (i + 1) a) (drop (i + 1) b)
+  unfolding inexactEntries
+  inexact-step h e = let k : i < length b = omega arith in rw (add-one, drop-cons a i 0, drop-cons b i 0)
+
+  pub inexact-end : i ≡ length a → inexactEntries d (drop i a) (drop i b) ≡ 0
+  unfolding inexactEntries
+  inexact-end e = rw (drop-end i a e)
+
+pub inexact-most : (g : Given Rounded) → inexactIn g ≤ 1
+inexact-most (gives x) = by (x .mark)
+  where
+    by : (t : Mark) → inexact t ≤ 1
+    by Exact = omega arith
+    by Low = omega arith
+    by High = omega arith
+inexact-most (refused n) = omega arith
+inexact-most (refusedAt n i) = omega arith
+
+-- without its mark an entry's sum is that of the patterns
+pub marked-written : (d : Direction) (a b : ℕ) → answerWritten (withoutMark (markedEntry d a b)) ≡ onPatterns Sum d a b
+unfolding markedEntry onPatterns unless
+marked-written d a b = by (finite a and finite b)
+  where
+    by : (t : Bool) → answerWritten (withoutMark (unless t (refused 9) (markedSum binary32 d (numberRead a) (numberRead b))))
+        ≡ unless t (refused 9) (answerWritten (roundedSum binary32 d (numberRead a) (numberRead b)))
+    by true = ap answerWritten (marked-number binary32 _ 1 (roundedSum binary32 d (numberRead a) (numberRead b)))
+    by false = refl

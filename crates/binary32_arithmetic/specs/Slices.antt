@@ -1,26 +1,40 @@
--- The sum of two slices of patterns, entry by entry.
-use Prim.Native.Nat.{ℕ, _≤_, _<_}
+-- The sum of two slices of patterns, entry by entry, and how many of the sums are not exact.
+use Prim.Native.Nat.{ℕ, suc, _+_, _≤_, _<_}
 use mathlib.Core.Path.{_≡_}
 use mathlib.Core.Bool.{Bool, true, false}
 use mathlib.Core.List.{List, [], _∷_, map}
 use lib.Dec.{eqb}
 use lib.ListN.{length, getD}
+use lib.IntN.{_+ℤ_}
 use Rattle.theory.specs.Tests.{_and_, unless}
 use Rattle.theory.specs.Lists.{firstWhere}
 use Rattle.theory.specs.declared.Direction.{Direction}
+use Rattle.theory.specs.Marks.{inexact}
 use Rattle.format.specs.Directions.{isDirection, direction}
-use Rattle.format.specs.Given.{Given, gives, refused, refusedAt}
+use Rattle.format.specs.Given.{Given, gives, refused, refusedAt, _then_}
+use Rattle.format.specs.Published.{binary32}
 use Rattle.format.specs.Refusals.{refusalNumber}
+use Rattle.arithmetic.specs.declared.Rounded.{Rounded}
+use Rattle.arithmetic.specs.Marked.{markedSum, withoutMark}
+use Rattle.binary32.specs.Patterns.{finite, numberRead, patternValue, answerWritten}
 use Rattle.binary32_arithmetic.specs.declared.Operation.the-variants.{Sum}
 use Rattle.binary32_arithmetic.specs.declared.SliceAnswer.{SliceAnswer}
 use Rattle.binary32_arithmetic.specs.declared.SliceAnswer.the-variants as answer
+use Rattle.binary32_arithmetic.specs.declared.Examined.{Examined}
+use Rattle.binary32_arithmetic.specs.declared.Examined.the-variants as examined
+use Rattle.binary32_arithmetic.specs.declared.WrittenEntry.{WrittenEntry}
 use Rattle.binary32_arithmetic.specs.Calls.{onPatterns}
 
 -- the answer of sum_slices in the papers' terms
-abbrev pub slicesGiven : SliceAnswer → Given Unit
-slicesGiven answer.Done = gives tt
+abbrev pub slicesGiven : SliceAnswer → Given ℕ
+slicesGiven (answer.Done inexact) = gives inexact
 slicesGiven (answer.Refused why) = refused (refusalNumber why)
 slicesGiven (answer.RefusedAt why index) = refusedAt (refusalNumber why) index
+
+-- and of its first pass
+abbrev pub examinedGiven : Examined → Given Unit
+examinedGiven examined.Passed = gives tt
+examinedGiven (examined.RefusedAt why index) = refusedAt (refusalNumber why) index
 
 -- ---- an entry by itself
 -- without its pattern
@@ -60,16 +74,34 @@ firstRefused sums = answerAt (getD sums (firstWhere isRefused sums) (gives 0)) (
 unfoldable pub sums : Direction → (a b : List ℕ) → List ℕ
 sums d a b = map written (entries d a b)
 
+-- ---- marks
+-- the sum of the numbers of two patterns, with its mark
+unfoldable pub markedEntry : Direction → (x y : ℕ) → Given Rounded
+markedEntry d x y = unless (finite x and finite y) (refused 9) (markedSum binary32 d (numberRead x) (numberRead y))
+
+-- 1 for a number that is not exact
+abbrev pub inexactIn : Given Rounded → ℕ
+inexactIn (gives x) = inexact (x .mark)
+inexactIn (refused number) = 0
+inexactIn (refusedAt number index) = 0
+
+-- how many entries are not exact
+unfoldable pub inexactEntries : Direction → (a b : List ℕ) → ℕ
+inexactEntries d [] b = 0
+inexactEntries d (x ∷ a) [] = 0
+inexactEntries d (x ∷ a) (y ∷ b) = inexactIn (markedEntry d x y) + inexactEntries d a b
+
 -- ---- the call
--- the answer of sum_slices: the lengths (11), the direction (2), then 9 and 5 entry by entry
-unfoldable pub slicesAnswer : (d : ℕ) (a b out : List ℕ) → Given Unit
+-- the answer of sum_slices: the lengths (11), the direction (2), 9 and 5 entry by entry, then how many entries are not exact
+unfoldable pub slicesAnswer : (d : ℕ) (a b out : List ℕ) → Given ℕ
 slicesAnswer d a b out =
     unless (eqb (length a) (length b) and eqb (length a) (length out)) (refused 11)
-    (unless (isDirection d) (refused 2) (firstRefused (entries (direction d) a b)))
+    (unless (isDirection d) (refused 2)
+    (firstRefused (entries (direction d) a b) then (λ done. gives (inexactEntries (direction d) a b))))
 
 -- what the third slice holds afterwards: the sums, or at a refusal what it held before
-abbrev pub slicesWritten : Given Unit → (new old : List ℕ) → List ℕ
-slicesWritten (gives done) new old = new
+abbrev pub slicesWritten : Given ℕ → (new old : List ℕ) → List ℕ
+slicesWritten (gives inexact) new old = new
 slicesWritten (refused number) new old = old
 slicesWritten (refusedAt number index) new old = old
 
@@ -91,9 +123,24 @@ pub record FirstRefused (d : Direction) (a b : List ℕ) (k i : ℕ) : Type 0 wh
 abbrev pub SameLengths : (a b out : List ℕ) → Type 0
 SameLengths a b out = (length a ≡ length b) × (length a ≡ length out)
 
+-- the value of the sum that is written at i is the exact sum of the two entries
+abbrev pub ExactAt : Direction → (a b : List ℕ) (i : ℕ) → Type 0
+ExactAt d a b i = patternValue (getD (sums d a b) i 0) ≡ patternValue (getD a i 0) +ℤ patternValue (getD b i 0)
+
+-- c of the first n sums are not exact
+pub data Inexact (d : Direction) (a b : List ℕ) : (n c : ℕ) → Type 0 where
+  none : Inexact d a b 0 0
+  exact : {n c : ℕ} → Inexact d a b n c → ExactAt d a b n → Inexact d a b (suc n) c
+  more : {n c : ℕ} → Inexact d a b n c → ¬ ExactAt d a b n → Inexact d a b (suc n) (suc c)
+
 -- the four ends of a call
-pub data Ends (d : ℕ) (a b out : List ℕ) (r : Given Unit) : Type 0 where
+pub data Ends (d : ℕ) (a b out : List ℕ) (r : Given ℕ) : Type 0 where
   lengths-differ : ¬ SameLengths a b out → r ≡ refused 11 → Ends d a b out r
   no-direction : SameLengths a b out → 4 < d → r ≡ refused 2 → Ends d a b out r
   refused-entry : SameLengths a b out → d ≤ 4 → {k i : ℕ} → FirstRefused (direction d) a b k i → r ≡ refusedAt k i → Ends d a b out r
-  all-written : SameLengths a b out → d ≤ 4 → Sums (direction d) a b (length a) → r ≡ gives tt → Ends d a b out r
+  all-written : SameLengths a b out → d ≤ 4 → Sums (direction d) a b (length a) → {c : ℕ} → Inexact (direction d) a b (length a) c → r ≡ gives c
+      → Ends d a b out r
+
+-- ---- for inner functions: an entry as it is written
+abbrev pub entryWritten : Given Rounded → WrittenEntry
+entryWritten g = record { pattern = written (answerWritten (withoutMark g)); inexact = inexactIn g }

@@ -21,7 +21,9 @@ fn sum_of(direction: Direction, x: Wide, y: Wide) -> Wide
     ensures { λ r. ⌜ SumOf direction x y r ⌝ }
 {
     let prepared = prepared_binary32();
-    wide::sum::sum(prepared.scale, direction, x, y)
+    let rounding = wide::sum::sum(prepared.scale, direction, x, y);
+    let sum = rounding.wide;
+    sum
 }
 
 // The number of a finite pattern, in the wide format.

@@ -15,11 +15,23 @@ pub enum Operation {
     Quotient,
 }
 
-// What a sum of slices answers: refusals 5 and 9 come with the index of the first refused entry.
+// What a sum of slices answers: how many entries are not exact; refusals 5 and 9 come with the index of the first refused entry.
 pub enum SliceAnswer {
-    Done,
+    Done(usize),
     Refused(Refusal),
     RefusedAt(Refusal, usize),
+}
+
+// What the first pass over two slices finds.
+pub enum Examined {
+    Passed,
+    RefusedAt(Refusal, usize),
+}
+
+// An entry as it is written, and 1 where it is not exact.
+pub struct WrittenEntry {
+    pub pattern: u32,
+    pub inexact: usize,
 }
 
 // A sum of two patterns without an error: the sum rounded to nearest, and what that leaves.

@@ -1,13 +1,22 @@
 // Two slices of patterns summed entry by entry into a third. The first pass looks for a refused entry, the second writes.
+use crate::Examined;
 use crate::Operation;
 use crate::SliceAnswer;
+use crate::WrittenEntry;
 use crate::operations::operate_on_patterns;
+use arithmetic::RoundedAnswer;
+use arithmetic::sum::marked_sum;
 use binary32::PatternAnswer;
+use binary32::finite::is_finite;
+use binary32::patterns::pattern_of;
+use binary32::patterns::read_finite;
+use binary32::prepared::prepared_binary32;
 use format::Refusal;
 use format::Verdict;
 use format::directions::direction_of;
 use format::directions::is_direction;
 use theory::Direction;
+use theory::Mark;
 ghost use mathlib.Core.Path.{_≡_};
 ghost use Prim.Native.Nat.{_*_, _%_, _^_};
 ghost use lib.Dec.{ltb};
@@ -15,10 +24,16 @@ ghost use lib.ListN.{length};
 ghost use Rattle.theory.specs.Tests.{_and_};
 ghost use Rattle.format.specs.Directions as directions;
 ghost use Rattle.format.specs.Given.{verdictGiven};
-ghost use Rattle.binary32.specs.Patterns.{patternGiven};
+ghost use mathlib.Core.Bool.{true};
+ghost use Rattle.theory.specs.Marks.{inexact};
+ghost use Rattle.format.specs.Published.{binary32};
+ghost use Rattle.number.specs.Numbers.{member};
+ghost use Rattle.arithmetic.specs.declared.Rounded.{Rounded};
+ghost use Rattle.arithmetic.specs.declared.RoundedAnswer.the-variants.{Value};
+ghost use Rattle.arithmetic.specs.Marked.{roundedGiven};
 ghost use Rattle.binary32_arithmetic.specs.Calls.{onPatterns};
 ghost use Rattle.binary32_arithmetic.specs.declared.Operation.the-variants.{Sum};
-ghost use Rattle.binary32_arithmetic.specs.Slices.{slicesGiven, passes, written, entries, firstRefused, sums, slicesAnswer, slicesWritten};
+ghost use Rattle.binary32_arithmetic.specs.Slices.{slicesGiven, examinedGiven, passes, entries, firstRefused, sums, entryWritten, markedEntry, inexactEntries, slicesAnswer, slicesWritten};
 
 // Is the pattern's magnitude at most half the greatest number? Its exponent field is below 254.
 fn is_half(pattern: u32) -> bool
@@ -49,49 +64,93 @@ fn examine(direction: Direction, a: u32, b: u32) -> Verdict
     }
 }
 
-fn written_or_zero(pattern: PatternAnswer) -> u32
-    ensures { λ r. ⌜ r ≡ written (patternGiven pattern) ⌝ }
+// 1 for a mark that is not exact.
+fn inexact_count(mark: Mark) -> usize
+    ensures { λ r. ⌜ r ≡ inexact mark ⌝ }
 {
-    match pattern {
-        PatternAnswer::Written(n) => n,
-        PatternAnswer::Refused(_) => 0,
+    match mark {
+        Mark::Exact => 0,
+        Mark::Low => 1,
+        Mark::High => 1,
     }
 }
 
+// A sum written, with its mark; nothing where it is refused.
+fn write_entry(answer: RoundedAnswer) -> WrittenEntry
+    requires { ⌜ ((x : Rounded) → answer ≡ Value x → member binary32 (x .number) ≡ true) ⌝ }
+    ensures { λ r. ⌜ r ≡ entryWritten (roundedGiven answer) ⌝ }
+{
+    match answer {
+        RoundedAnswer::Refused(_) => WrittenEntry {
+            pattern: 0,
+            inexact: 0,
+        },
+        RoundedAnswer::Value(rounded) => {
+            let number = rounded.number;
+            let mark = rounded.mark;
+            WrittenEntry {
+                pattern: pattern_of(number),
+                inexact: inexact_count(mark),
+            }
+        }
+    }
+}
+
+fn sum_entry(direction: Direction, a: u32, b: u32) -> WrittenEntry
+    ensures { λ r. ⌜ r ≡ entryWritten (markedEntry direction a b) ⌝ }
+{
+    let none = WrittenEntry {
+        pattern: 0,
+        inexact: 0,
+    };
+    if !is_finite(a) {
+        return none;
+    }
+    if !is_finite(b) {
+        return none;
+    }
+    write_entry(marked_sum(
+        prepared_binary32(),
+        direction,
+        read_finite(a),
+        read_finite(b),
+    ))
+}
+
 // The first pass.
-fn first_refused(direction: Direction, a: &[u32], b: &[u32]) -> SliceAnswer
+fn first_refused(direction: Direction, a: &[u32], b: &[u32]) -> Examined
     requires { ⌜ length (now a) ≡ length (now b) ⌝ }
-    ensures { λ r. ⌜ slicesGiven r ≡ firstRefused (entries direction (now (a .entry)) (now (b .entry))) ⌝ }
+    ensures { λ r. ⌜ examinedGiven r ≡ firstRefused (entries direction (now (a .entry)) (now (b .entry))) ⌝ }
 {
     let mut i = 0;
     while i < a.len() {
         if let Verdict::Refused(why) = examine(direction, a[i], b[i]) {
-            return SliceAnswer::RefusedAt(why, i);
+            return Examined::RefusedAt(why, i);
         }
         i += 1;
     }
-    SliceAnswer::Done
+    Examined::Passed
 }
 
-// The second pass.
-fn write_sums(direction: Direction, a: &[u32], b: &[u32], out: &mut [u32])
+// The second pass: how many entries are not exact.
+fn write_sums(direction: Direction, a: &[u32], b: &[u32], out: &mut [u32]) -> usize
     requires { ⌜ length (now a) ≡ length (now b) ⌝ }
     requires { ⌜ length (now a) ≡ length (now out) ⌝ }
-    ensures { λ _. ⌜ now (out .exit) ≡ sums direction (now (a .entry)) (now (b .entry)) ⌝ }
+    ensures count { λ r. ⌜ r ≡ inexactEntries direction (now (a .entry)) (now (b .entry)) ⌝ }
+    ensures written { λ _. ⌜ now (out .exit) ≡ sums direction (now (a .entry)) (now (b .entry)) ⌝ }
 {
+    let mut inexact = 0;
     let mut done = 0;
     while done < a.len() {
-        out[done] = written_or_zero(operate_on_patterns(
-            Operation::Sum,
-            direction,
-            a[done],
-            b[done],
-        ));
+        let entry = sum_entry(direction, a[done], b[done]);
+        out[done] = entry.pattern;
+        inexact += entry.inexact;
         done += 1;
     }
+    inexact
 }
 
-// a + b entry by entry into out. Refuses 11, 2, and 9 and 5 with the index of the first refused entry.
+// a + b entry by entry into out, and how many entries are not exact. Refuses 11, 2, and 9 and 5 with the index of the first refused entry.
 pub fn sum_slices(direction: u32, a: &[u32], b: &[u32], out: &mut [u32]) -> SliceAnswer
     ensures answer { λ r. ⌜ slicesGiven r ≡ slicesAnswer direction (now (a .entry)) (now (b .entry)) (now (out .entry)) ⌝ }
     ensures written { λ r. ⌜ now (out .exit) ≡ slicesWritten (slicesGiven r) (sums (directions.direction direction) (now (a .entry)) (now (b .entry))) (now (out .entry)) ⌝ }
@@ -107,11 +166,7 @@ pub fn sum_slices(direction: u32, a: &[u32], b: &[u32], out: &mut [u32]) -> Slic
     }
     let rounding = direction_of(direction);
     match first_refused(rounding, a, b) {
-        SliceAnswer::Refused(why) => SliceAnswer::Refused(why),
-        SliceAnswer::RefusedAt(why, index) => SliceAnswer::RefusedAt(why, index),
-        SliceAnswer::Done => {
-            write_sums(rounding, a, b, out);
-            SliceAnswer::Done
-        }
+        Examined::RefusedAt(why, index) => SliceAnswer::RefusedAt(why, index),
+        Examined::Passed => SliceAnswer::Done(write_sums(rounding, a, b, out)),
     }
 }

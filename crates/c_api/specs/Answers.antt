@@ -4,14 +4,18 @@ use mathlib.Core.Path.{_≡_}
 use mathlib.Core.Bool.{Bool, cond}
 use lib.Dec.{leb, eqb}
 use lib.IntN.{ℤ, pos, negsuc}
+use Rattle.theory.specs.declared.Mark.{Mark}
+use Rattle.theory.specs.declared.Mark.the-variants.{Exact, Low, High}
 use Rattle.format.specs.declared.Format.{Format}
 use Rattle.format.specs.Given.{Given, gives, refused, refusedAt}
 use Rattle.number.specs.declared.Number.{Number}
 use Rattle.number.specs.declared.Ordering.{Ordering}
 use Rattle.number.specs.declared.Ordering.the-variants.{Less, Equal, Greater}
+use Rattle.arithmetic.specs.declared.Rounded.{Rounded}
 use Rattle.fast_two_sum.specs.declared.Steps.{Steps}
 use Rattle.c_api.specs.declared.answers.CNumber.{CNumber}
 use Rattle.c_api.specs.declared.answers.NumberOut.{NumberOut}
+use Rattle.c_api.specs.declared.answers.RoundedOut.{RoundedOut}
 use Rattle.c_api.specs.declared.answers.OrderOut.{OrderOut}
 use Rattle.c_api.specs.declared.answers.PublishedOut.{PublishedOut}
 use Rattle.c_api.specs.declared.answers.TripleOut.{TripleOut}
@@ -56,6 +60,20 @@ noNumber = record { negative = 0; significand = 0; exponent = pos 0 }
 abbrev pub numberOut : Given Number → NumberOut
 numberOut g = record { refusal = refusalOut g; number = valueOut numberFor noNumber g }
 
+-- ---- marks: 0 exact, 1 low, 2 high
+abbrev pub markNumber : Mark → ℕ
+markNumber Exact = 0
+markNumber Low = 1
+markNumber High = 2
+
+abbrev pub roundedOut : Given Rounded → RoundedOut
+roundedOut g =
+    record {
+      refusal = refusalOut g;
+      mark = valueOut (λ (x : Rounded). markNumber (x .mark)) 0 g;
+      number = valueOut (λ (x : Rounded). numberFor (x .number)) noNumber g;
+    }
+
 abbrev pub tripleOut : Given Steps → TripleOut
 tripleOut g =
     record {
@@ -89,8 +107,8 @@ patternOut (gives n) = n
 patternOut (refused number) = number * 2 ^ 32
 patternOut (refusedAt number index) = number * 2 ^ 32
 
-abbrev pub slicesOut : Given Unit → SlicesOut
-slicesOut g = record { refusal = refusalOut g; index = indexOut g }
+abbrev pub slicesOut : Given ℕ → SlicesOut
+slicesOut g = record { refusal = refusalOut g; index = indexOut g; inexact = valueOut (λ (n : ℕ). n) 0 g }
 
 -- a position, a count or a pattern, and an index where the refusal has one
 abbrev pub countOut : Given ℕ → IndexedOut

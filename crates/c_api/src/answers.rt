@@ -1,5 +1,6 @@
 // The engine's answers as C sees them, and its numbers as C hands them over. An answer is a struct whose first field is the refusal's
 // number, 0 for none, and whose other fields are zero at a refusal; a verdict or a pattern is a number.
+use arithmetic::RoundedAnswer;
 use binary32::PatternAnswer;
 use binary32_arithmetic::SliceAnswer;
 use boundaries::BoundaryAnswer;
@@ -16,9 +17,11 @@ use number::OrderAnswer;
 use number::Ordering;
 use receivers::Calmer;
 use saved_lines::LineAnswer;
+use theory::Mark;
 ghost use mathlib.Core.Path.{_≡_};
 ghost use Rattle.format.specs.Given.{verdictGiven, formatGiven};
 ghost use Rattle.number.specs.Answers.{numberGiven, orderGiven};
+ghost use Rattle.arithmetic.specs.Marked.{roundedGiven};
 ghost use Rattle.fast_two_sum.specs.Answers.{stepsGiven};
 ghost use Rattle.fast_two_sum.specs.Answers.{checkGiven};
 ghost use Rattle.binary32.specs.Patterns.{patternGiven};
@@ -26,7 +29,7 @@ ghost use Rattle.binary32_arithmetic.specs.Slices.{slicesGiven};
 ghost use Rattle.saved_lines.specs.Lines.{lineGiven};
 ghost use Rattle.receivers.specs.Answers.{calmerGiven};
 ghost use Rattle.boundaries.specs.Sums as sums;
-ghost use Rattle.c_api.specs.Answers.{refusalOut, numberIn, numberFor, numberOut, orderNumber, orderOut, publishedOut, tripleOut, checkOut, patternOut, slicesOut, countOut, stretchOut, SmallIndex};
+ghost use Rattle.c_api.specs.Answers.{refusalOut, numberIn, numberFor, numberOut, markNumber, roundedOut, orderNumber, orderOut, publishedOut, tripleOut, checkOut, patternOut, slicesOut, countOut, stretchOut, SmallIndex};
 
 // A number: the sign is 0 for plus, 1 for minus.
 #[repr(C)]
@@ -39,6 +42,14 @@ pub struct CNumber {
 #[repr(C)]
 pub struct NumberOut {
     pub refusal: u32,
+    pub number: CNumber,
+}
+
+// The mark is 0, 1 or 2: the number is the exact result, below it, above it.
+#[repr(C)]
+pub struct RoundedOut {
+    pub refusal: u32,
+    pub mark: u32,
     pub number: CNumber,
 }
 
@@ -70,11 +81,12 @@ pub struct CheckOut {
     pub yes: u32,
 }
 
-// The index of the first refused entry, beside refusals 5 and 9.
+// The index of the first refused entry, beside refusals 5 and 9, and how many entries are not exact, where none is refused.
 #[repr(C)]
 pub struct SlicesOut {
     pub refusal: u32,
     pub index: u64,
+    pub inexact: u64,
 }
 
 // A position, a count or a pattern: the layout of four structs of the header. Where `indexed` is 1, `index` is that of the first refused entry.
@@ -140,6 +152,45 @@ pub fn number_out(answer: NumberAnswer) -> NumberOut
             };
             NumberOut {
                 refusal: refusal_number(why),
+                number: none,
+            }
+        }
+    }
+}
+
+fn mark_number(mark: Mark) -> u32
+    ensures { λ r. ⌜ r ≡ markNumber mark ⌝ }
+{
+    match mark {
+        Mark::Exact => 0,
+        Mark::Low => 1,
+        Mark::High => 2,
+    }
+}
+
+pub fn rounded_out(answer: RoundedAnswer) -> RoundedOut
+    ensures { λ r. ⌜ r ≡ roundedOut (roundedGiven answer) ⌝ }
+{
+    match answer {
+        RoundedAnswer::Value(rounded) => {
+            let kept = rounded.number;
+            let mark = rounded.mark;
+            let number = number_for(kept);
+            RoundedOut {
+                refusal: 0,
+                mark: mark_number(mark),
+                number: number,
+            }
+        }
+        RoundedAnswer::Refused(why) => {
+            let none = CNumber {
+                negative: 0,
+                significand: 0,
+                exponent: 0,
+            };
+            RoundedOut {
+                refusal: refusal_number(why),
+                mark: 0,
                 number: none,
             }
         }
@@ -264,17 +315,20 @@ pub fn slices_out(answer: SliceAnswer) -> SlicesOut
     ensures { λ r. ⌜ r ≡ slicesOut (slicesGiven answer) ⌝ }
 {
     match answer {
-        SliceAnswer::Done => SlicesOut {
+        SliceAnswer::Done(inexact) => SlicesOut {
             refusal: 0,
             index: 0,
+            inexact: inexact as u64,
         },
         SliceAnswer::Refused(why) => SlicesOut {
             refusal: refusal_number(why),
             index: 0,
+            inexact: 0,
         },
         SliceAnswer::RefusedAt(why, index) => SlicesOut {
             refusal: refusal_number(why),
             index: index as u64,
+            inexact: 0,
         },
     }
 }

@@ -3,10 +3,12 @@ use crate::answers::CNumber;
 use crate::answers::NumberOut;
 use crate::answers::OrderOut;
 use crate::answers::PublishedOut;
+use crate::answers::RoundedOut;
 use crate::answers::number_in;
 use crate::answers::number_out;
 use crate::answers::order_out;
 use crate::answers::published_out;
+use crate::answers::rounded_out;
 use crate::answers::verdict_out;
 use arithmetic::fraction::fraction;
 use arithmetic::product::product;
@@ -35,8 +37,8 @@ ghost use Rattle.number.specs.Order.{compared};
 ghost use Rattle.number.specs.Signs.{negated, unsigned};
 ghost use Rattle.units.specs.Places.{firstPlace, lastPlace, leastPlace};
 ghost use Rattle.units.specs.Neighbours.{predecessorOf, successorOf};
-ghost use Rattle.arithmetic.specs.Operations.{summed, subtracted, multiplied, divided, fractioned};
-ghost use Rattle.c_api.specs.Answers.{refusalOut, numberIn, numberOut, orderOut, publishedOut};
+ghost use Rattle.arithmetic.specs.Marked.{sumAnswer, differenceAnswer, productAnswer, quotientAnswer, fractionAnswer};
+ghost use Rattle.c_api.specs.Answers.{refusalOut, numberIn, numberOut, roundedOut, orderOut, publishedOut};
 
 // 0 if the format is admitted, else 1.
 #[no_mangle]
@@ -126,62 +128,62 @@ pub extern "C" fn zurkeb_successor(format: Format, x: CNumber) -> NumberOut
     number_out(successor(format, number_in(x)))
 }
 
-// a + b. Refuses 1, 2, 3, 5.
+// a + b, with its mark. Refuses 1, 2, 3, 5.
 #[no_mangle]
-pub extern "C" fn zurkeb_sum(format: Format, direction: u32, a: CNumber, b: CNumber) -> NumberOut
-    ensures { λ r. ⌜ r ≡ numberOut (summed format direction (numberIn a) (numberIn b)) ⌝ }
+pub extern "C" fn zurkeb_sum(format: Format, direction: u32, a: CNumber, b: CNumber) -> RoundedOut
+    ensures { λ r. ⌜ r ≡ roundedOut (sumAnswer format direction (numberIn a) (numberIn b)) ⌝ }
 {
-    number_out(sum(format, direction, number_in(a), number_in(b)))
+    rounded_out(sum(format, direction, number_in(a), number_in(b)))
 }
 
-// a - b. Refuses 1, 2, 3, 5.
+// a - b, with its mark. Refuses 1, 2, 3, 5.
 #[no_mangle]
 pub extern "C" fn zurkeb_difference(
     format: Format,
     direction: u32,
     a: CNumber,
     b: CNumber,
-) -> NumberOut
-    ensures { λ r. ⌜ r ≡ numberOut (subtracted format direction (numberIn a) (numberIn b)) ⌝ }
+) -> RoundedOut
+    ensures { λ r. ⌜ r ≡ roundedOut (differenceAnswer format direction (numberIn a) (numberIn b)) ⌝ }
 {
-    number_out(difference(format, direction, number_in(a), number_in(b)))
+    rounded_out(difference(format, direction, number_in(a), number_in(b)))
 }
 
-// a * b. Refuses 1, 2, 3, 5.
+// a * b, with its mark. Refuses 1, 2, 3, 5.
 #[no_mangle]
 pub extern "C" fn zurkeb_product(
     format: Format,
     direction: u32,
     a: CNumber,
     b: CNumber,
-) -> NumberOut
-    ensures { λ r. ⌜ r ≡ numberOut (multiplied format direction (numberIn a) (numberIn b)) ⌝ }
+) -> RoundedOut
+    ensures { λ r. ⌜ r ≡ roundedOut (productAnswer format direction (numberIn a) (numberIn b)) ⌝ }
 {
-    number_out(product(format, direction, number_in(a), number_in(b)))
+    rounded_out(product(format, direction, number_in(a), number_in(b)))
 }
 
-// a / b. Refuses 1, 2, 3, 4, 5.
+// a / b, with its mark. Refuses 1, 2, 3, 4, 5.
 #[no_mangle]
 pub extern "C" fn zurkeb_quotient(
     format: Format,
     direction: u32,
     a: CNumber,
     b: CNumber,
-) -> NumberOut
-    ensures { λ r. ⌜ r ≡ numberOut (divided format direction (numberIn a) (numberIn b)) ⌝ }
+) -> RoundedOut
+    ensures { λ r. ⌜ r ≡ roundedOut (quotientAnswer format direction (numberIn a) (numberIn b)) ⌝ }
 {
-    number_out(quotient(format, direction, number_in(a), number_in(b)))
+    rounded_out(quotient(format, direction, number_in(a), number_in(b)))
 }
 
-// numerator / denominator. Refuses 1, 2, 4, 5.
+// numerator / denominator, with its mark. Refuses 1, 2, 4, 5.
 #[no_mangle]
 pub extern "C" fn zurkeb_fraction(
     format: Format,
     direction: u32,
     numerator: i32,
     denominator: u32,
-) -> NumberOut
-    ensures { λ r. ⌜ r ≡ numberOut (fractioned format direction numerator denominator) ⌝ }
+) -> RoundedOut
+    ensures { λ r. ⌜ r ≡ roundedOut (fractionAnswer format direction numerator denominator) ⌝ }
 {
-    number_out(fraction(format, direction, numerator, denominator))
+    rounded_out(fraction(format, direction, numerator, denominator))
 }

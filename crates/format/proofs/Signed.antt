@@ -1,48 +1,16 @@
 -- Signed numbers of 32 bits: what a test of order says, as a fact on natural numbers that `omega` reads, and when a result fits.
 -- An integer is its part above 0 less its part below 0.
-use Rattle.theory.proofs.Prelude.{_≤_, _<_, _+_, _^_, true, false, _≡_, sym, refl, arith, T, ℤ, pos, negsuc, ltZ, leZ, w32, SFits, toZ, ofZ, subst, Bool, _∙_, lt-of-not-le, le-of-suc-le-suc, suc}
+use Rattle.theory.proofs.Prelude.{_≤_, _<_, _^_, true, false, _≡_, arith, T, ℤ, pos, negsuc, ltZ, leZ, w32, SFits, toZ, ofZ}
 use Prim.Native.Nat.{min}
-use lib.Signed.{nonNeg, leZ-yes, ltZ-yes}
+use lib.Signed.{nonNeg}
 use mir.ValLaws.{toZ-ofZ}
-use Rattle.theory.proofs.Integers.{above, below, le-parts, parts-le, lt-parts, parts-lt}
-use Rattle.theory.proofs.Tests.{never, refuted}
-
--- a is at most b, and less than b
-abbrev pub Upto : ℤ → ℤ → Type 0
-Upto a b = above a + below b ≤ above b + below a
-
-abbrev pub Under : ℤ → ℤ → Type 0
-Under a b = above a + below b < above b + below a
+use Rattle.theory.proofs.Integers.{above, below}
+pub use Rattle.theory.proofs.Order.{Upto, Under, le-true, le-false, lt-true, lt-false, make-le, make-lt, make-ge}
 
 -- one of the two parts is 0
 pub apart : (z : ℤ) → min (above z) (below z) ≡ 0
 apart (pos n) = omega arith
 apart (negsuc n) = omega arith
-
--- ---- tests of order, passed and failed, and made
-holds : (t : Bool) → T t → t ≡ true
-holds true h = refl
-
-pub le-true : (a b : ℤ) → leZ a b ≡ true → Upto a b
-le-true a b h = le-parts (leZ-yes {a = a} {b = b} (subst T (sym h) tt))
-
-pub lt-true : (a b : ℤ) → ltZ a b ≡ true → Under a b
-lt-true a b h = lt-parts (ltZ-yes {a = a} {b = b} (subst T (sym h) tt))
-
-pub make-le : (a b : ℤ) → Upto a b → leZ a b ≡ true
-make-le a b h = holds (leZ a b) (parts-le a b h .le)
-
-pub make-lt : (a b : ℤ) → Under a b → ltZ a b ≡ true
-make-lt a b h = holds (ltZ a b) (parts-lt a b h .lt)
-
-pub le-false : (a b : ℤ) → leZ a b ≡ false → Under b a
-le-false a b h = lt-of-not-le (λ (l : above a + below b ≤ above b + below a). never (sym (make-le a b l) ∙ h))
-
-pub lt-false : (a b : ℤ) → ltZ a b ≡ false → Upto b a
-lt-false a b h = le-of-suc-le-suc (lt-of-not-le (λ (l : suc (above a + below b) ≤ above b + below a). never (sym (make-lt a b l) ∙ h)))
-
-pub make-ge : (a b : ℤ) → Upto b a → ltZ a b ≡ false
-make-ge a b h = sym (refuted (λ t. omega (arith, lt-true a b t)))
 
 -- ---- 32 bits
 pub fits : (z : ℤ) → above z < 2 ^ 31 → below z ≤ 2 ^ 31 → SFits w32 z

@@ -19,7 +19,9 @@ pub mod Monotone
 pub mod Division
 -- values with a sign
 pub mod Integers
+pub mod Order
 pub mod Signed
+pub mod Marks
 pub mod Faithful
 -- the three-step sum
 pub mod Error

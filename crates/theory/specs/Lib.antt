@@ -7,5 +7,6 @@ pub mod Neighbours
 pub mod Units
 pub mod Round
 pub mod Signed
+pub mod Marks
 pub mod Faithful
 pub mod Rump

@@ -13,7 +13,9 @@ use Rattle.number.specs.Signs.{negated, unsigned}
 use Rattle.number.specs.Order.{compared}
 use Rattle.units.specs.Neighbours.{predecessorOf, successorOf}
 use Rattle.units.specs.Places.{firstPlace}
-use Rattle.arithmetic.specs.Operations.{summed, subtracted, multiplied, divided, fractioned}
+use Rattle.theory.specs.Marks.{inexact}
+use Rattle.arithmetic.specs.declared.Rounded.{Rounded}
+use Rattle.arithmetic.specs.Marked.{withoutMark, sumAnswer, differenceAnswer, productAnswer, quotientAnswer, fractionAnswer}
 use Rattle.fast_two_sum.specs.declared.Steps.{Steps}
 use Rattle.fast_two_sum.specs.Calls.{fastTwoSum}
 use Rattle.binary32_arithmetic.specs.declared.Operation.the-variants.{Sum, Difference, Product, Quotient}
@@ -36,6 +38,10 @@ wholeOrder g = g then λ o. gives (orderWhole o)
 abbrev pub patternNumber : Given ℕ → Given Number
 patternNumber g = g then λ n. gives (whole false n)
 
+-- whether a result is not exact, as 0 or 1
+abbrev pub inexactWhole : Given Rounded → Given Number
+inexactWhole g = g then λ x. gives (whole false (inexact (x .mark)))
+
 -- x of the three steps
 abbrev pub firstOfSteps : Given Steps → Given Number
 firstOfSteps g = g then λ s. gives (s .x)
@@ -43,11 +49,11 @@ firstOfSteps g = g then λ s. gives (s .x)
 -- ---- the operations
 abbrev pub calls : Format → (d : ℕ) (a b : Number) → List (Given Number)
 calls f d a b =
-    summed f d a b
-    ∷ subtracted f d a b
-    ∷ multiplied f d a b
-    ∷ divided f d a b
-    ∷ fractioned f d (a .exponent) (b .significand)
+    withoutMark (sumAnswer f d a b)
+    ∷ withoutMark (differenceAnswer f d a b)
+    ∷ withoutMark (productAnswer f d a b)
+    ∷ withoutMark (quotientAnswer f d a b)
+    ∷ withoutMark (fractionAnswer f d (a .exponent) (b .significand))
     ∷ wholeOrder (compared f a b)
     ∷ unsigned f a
     ∷ negated f a
@@ -58,8 +64,12 @@ calls f d a b =
     ∷ patternNumber (patternCall Difference d (a .significand) (b .significand))
     ∷ patternNumber (patternCall Product d (a .significand) (b .significand))
     ∷ patternNumber (patternCall Quotient d (a .significand) (b .significand))
+    ∷ inexactWhole (sumAnswer f d a b)
+    ∷ inexactWhole (differenceAnswer f d a b)
+    ∷ inexactWhole (productAnswer f d a b)
+    ∷ inexactWhole (quotientAnswer f d a b)
     ∷ []
 
--- what the operation with this number answers: from 15 on, the three-step sum
+-- what the operation with this number answers: from 19 on, the three-step sum
 unfoldable pub answerOf : (operation : ℕ) → Format → (d : ℕ) (a b : Number) → Given Number
 answerOf operation f d a b = getD (calls f d a b) operation (firstOfSteps (fastTwoSum f d d d a b))

@@ -1,4 +1,6 @@
 // The calls of the rows.
+use arithmetic::RoundedAnswer;
+use arithmetic::operands::unmarked;
 use binary32::PatternAnswer;
 use binary32_arithmetic::operations;
 use fast_two_sum::StepsAnswer;
@@ -8,12 +10,15 @@ use number::Number;
 use number::NumberAnswer;
 use number::OrderAnswer;
 use number::Ordering;
+use theory::Mark;
 ghost use mathlib.Core.Path.{_≡_};
 ghost use mathlib.Core.Bool.{true, false};
 ghost use Rattle.number.specs.Answers.{numberGiven, orderGiven};
+ghost use Rattle.theory.specs.Marks.{inexact};
+ghost use Rattle.arithmetic.specs.Marked.{roundedGiven};
 ghost use Rattle.fast_two_sum.specs.Answers.{stepsGiven};
 ghost use Rattle.binary32.specs.Patterns.{patternGiven};
-ghost use Rattle.vectors.specs.Calls.{whole, wholeOrder, patternNumber, firstOfSteps, answerOf};
+ghost use Rattle.vectors.specs.Calls.{whole, wholeOrder, patternNumber, inexactWhole, firstOfSteps, answerOf};
 
 // A whole number.
 pub fn whole(negative: bool, n: u32) -> Number
@@ -50,6 +55,30 @@ fn pattern_number(pattern: PatternAnswer) -> NumberAnswer
     }
 }
 
+// 1 for a mark that is not exact.
+fn inexact_flag(mark: Mark) -> u32
+    ensures { λ r. ⌜ r ≡ inexact mark ⌝ }
+{
+    match mark {
+        Mark::Exact => 0,
+        Mark::Low => 1,
+        Mark::High => 1,
+    }
+}
+
+// Whether a result is not exact, as 0 or 1.
+fn inexact_number(answer: RoundedAnswer) -> NumberAnswer
+    ensures { λ r. ⌜ numberGiven r ≡ inexactWhole (roundedGiven answer) ⌝ }
+{
+    match answer {
+        RoundedAnswer::Value(rounded) => {
+            let mark = rounded.mark;
+            NumberAnswer::Value(whole(false, inexact_flag(mark)))
+        }
+        RoundedAnswer::Refused(why) => NumberAnswer::Refused(why),
+    }
+}
+
 // x of three steps.
 fn first_step(steps: StepsAnswer) -> NumberAnswer
     ensures { λ r. ⌜ numberGiven r ≡ firstOfSteps (stepsGiven steps) ⌝ }
@@ -70,11 +99,11 @@ pub fn answer_of(operation: u32, format: Format, d: u32, a: Number, b: Number) -
     let m = a.significand;
     let n = b.significand;
     match operation {
-        0 => arithmetic::sum::sum(format, d, a, b),
-        1 => arithmetic::sum::difference(format, d, a, b),
-        2 => arithmetic::product::product(format, d, a, b),
-        3 => arithmetic::quotient::quotient(format, d, a, b),
-        4 => arithmetic::fraction::fraction(format, d, a.exponent, n),
+        0 => unmarked(arithmetic::sum::sum(format, d, a, b)),
+        1 => unmarked(arithmetic::sum::difference(format, d, a, b)),
+        2 => unmarked(arithmetic::product::product(format, d, a, b)),
+        3 => unmarked(arithmetic::quotient::quotient(format, d, a, b)),
+        4 => unmarked(arithmetic::fraction::fraction(format, d, a.exponent, n)),
         5 => order_number(number::order::compare(format, a, b)),
         6 => number::signs::magnitude(format, a),
         7 => number::signs::negate(format, a),
@@ -85,6 +114,10 @@ pub fn answer_of(operation: u32, format: Format, d: u32, a: Number, b: Number) -
         12 => pattern_number(operations::pattern_difference(d, m, n)),
         13 => pattern_number(operations::pattern_product(d, m, n)),
         14 => pattern_number(operations::pattern_quotient(d, m, n)),
+        15 => inexact_number(arithmetic::sum::sum(format, d, a, b)),
+        16 => inexact_number(arithmetic::sum::difference(format, d, a, b)),
+        17 => inexact_number(arithmetic::product::product(format, d, a, b)),
+        18 => inexact_number(arithmetic::quotient::quotient(format, d, a, b)),
         _ => first_step(fast_two_sum(format, d, d, d, a, b)),
     }
 }

@@ -7,6 +7,8 @@ use Rattle.theory.proofs.Powers.{pow-pos}
 use Rattle.theory.proofs.Place.{place-le}
 use Rattle.theory.proofs.Wide.{wide-zero}
 use Rattle.theory.proofs.Round.{round-exact}
+use Rattle.theory.proofs.Marks.{mark-exactly}
+use Rattle.theory.specs.declared.Mark.the-variants.{Exact}
 use Rattle.format.specs.declared.Scale.{Scale}
 use Rattle.format.specs.Formats.{Scaled}
 use Rattle.rounding.specs.declared.Cut.{Cut}
@@ -26,11 +28,12 @@ module _ {s : Scale} (h : Scaled s) (N D : ℕ) (hD : 1 ≤ D) {c : Cut} (e : c 
 
 -- zero is exact, with any sign
 pub rounds-zero : {β p : ℕ} → Positional β p → (d : Direction) (negative : Bool) {N : ℕ} (D : ℕ) → 1 ≤ D → N ≡ 0
-    → Rounds β p d negative N D (record { negative = negative; significand = 0; place = 0 })
+    → Rounds β p d negative N D (record { wide = record { negative = negative; significand = 0; place = 0 }; mark = Exact })
 rounds-zero {β} {p} ok d negative D hD e =
     rw e
     (record {
       sign = refl;
       canonical = record { small = pow-pos (ok .base) p; normal = inl refl };
       size = zero-mul (β ^ 0) ∙ sym (round-exact ok 0 hD d negative 0 (wide-zero ok) (omega arith));
+      marked = sym (mark-exactly (0 * β ^ 0) 0 D negative (omega arith));
     })

@@ -12,18 +12,19 @@ use Rattle.theory.proofs.Round.{round-exact}
 use Rattle.theory.proofs.Monotone.{round-mono}
 use Rattle.theory.proofs.Signed.{roundZ-signed}
 use Rattle.rounding.specs.declared.Wide.{Wide}
+use Rattle.rounding.specs.declared.Rounding.{Rounding}
 use Rattle.rounding.specs.Cut.{Rounds}
 use Rattle.wide.specs.Operand.{valueOf}
 use Rattle.wide.specs.Sum.{RoundsZ}
 use Rattle.wide.proofs.Sizes.{greatest-below, sum-size}
 
-module _ {β p : ℕ} (ok : Positional β p) {d : Direction} {r : Wide} where
+module _ {β p : ℕ} (ok : Positional β p) {d : Direction} {r : Rounding} where
   module _ {negative : Bool} {N D : ℕ} (hD : 1 ≤ D) (h : Rounds β p d negative N D r) where
-    pub rounds-value : valueOf β r ≡ roundZ β p d (signed negative N) D
+    pub rounds-value : valueOf β (r .wide) ≡ roundZ β p d (signed negative N) D
     rounds-value = ap₂ signed (h .sign) (h .size) ∙ sym (roundZ-signed ok hD d negative N)
 
     -- what is at most the greatest number at place k has a place of at most k
-    pub rounds-place : (k : ℕ) → N ≤ (β ^ p - 1) * β ^ k * D → r .place ≤ k
+    pub rounds-place : (k : ℕ) → N ≤ (β ^ p - 1) * β ^ k * D → r .wide .place ≤ k
     rounds-place k l =
         let w : ℕ = (β ^ p - 1) * β ^ k in
         let most : round β p d negative N D ≤ round β p d negative w 1 =
@@ -32,9 +33,9 @@ module _ {β p : ℕ} (ok : Positional β p) {d : Direction} {r : Wide} where
         round-exact ok w (omega arith) d negative w (record { significand = β ^ p - 1; exponent = k; small = omega (arith, pow-pos (ok .base) p); is = refl }) (omega arith) in
         rw (← canonical-place ok (h .canonical), h .size) (place-le ok (omega (arith, greatest-below ok k)))
 
-  pub sum-value : (z : ℤ) → RoundsZ β p d z r → valueOf β r ≡ roundZ β p d z 1
+  pub sum-value : (z : ℤ) → RoundsZ β p d z r → valueOf β (r .wide) ≡ roundZ β p d z 1
   sum-value z h = rounds-value (omega arith) (h .rounds) ∙ ap (λ (v : ℤ). roundZ β p d v 1) (sym (h .sign))
 
   pub sum-place : (x y : Wide) → RoundsZ β p d (valueOf β x +ℤ valueOf β y) r → Canonical β p (x .significand) (x .place) → Canonical β p (y .significand) (y .place)
-      → (k : ℕ) → x .place ≤ k → y .place ≤ k → r .place ≤ k + 1
+      → (k : ℕ) → x .place ≤ k → y .place ≤ k → r .wide .place ≤ k + 1
   sum-place x y h hx hy k l m = rounds-place (omega arith) (h .rounds) (k + 1) (omega (arith, sum-size ok x y hx hy k l m))

@@ -18,6 +18,7 @@ use Rattle.rounding.proofs.Locations.{located-exact, located-below, located-abo
 use Rattle.rounding.proofs.Places.{cut-is}
 use Rattle.rounding.proofs.Scales.{positional, power-at, least-bound}
 use Rattle.rounding.specs.declared.Wide.{Wide}
+use Rattle.rounding.specs.declared.Rounding.{Rounding}
 use Rattle.wide.specs.Operand.{Bounded, sizeOf, valueOf}
 use Rattle.wide.specs.Sum.{Adds, SumCut, RoundsZ, belowPower}
 use Rattle.wide.proofs.Sizes.{sum-size}
@@ -175,7 +176,7 @@ module _ {s : Scale} (h : Scaled s) {x y : Wide} (hx : Bounded s x) (hy : Bounde
       let n : ℕ = natAbs (valueOf (s .base) x +ℤ valueOf (s .base) y) in
       (h, steps-fit h n 1 (omega arith) (k .size), omega (arith, place-fit h n 1 (omega arith) (k .size) (2 ^ 28 + 1) (sum-size (positional h) x y (hx .canonical) (hy .canonical) (2 ^ 28) (omega (arith, hx .place-most)) (omega (arith, hy .place-most)))))
 
-pub sum-rounds : {s : Scale} {d : Direction} (z : ℤ) {negative : Bool} {c : Cut} {r : Wide} → SumCut s z negative c
+pub sum-rounds : {s : Scale} {d : Direction} (z : ℤ) {negative : Bool} {c : Cut} {r : Rounding} → SumCut s z negative c
     → ((N D : ℕ) → 1 ≤ D → c ≡ cutOf (s .base) (s .digits) N D → Rounds (s .base) (s .digits) d negative N D r) → RoundsZ (s .base) (s .digits) d z r
 sum-rounds {s} {d} z {negative} {c} {r} k finished =
     let h = finished (natAbs z) 1 (omega arith) (k .size) in

@@ -8,14 +8,14 @@ use Rattle.theory.specs.declared.Location.{Location}
 use Rattle.theory.specs.Signed.{signed}
 use Rattle.format.specs.declared.Scale.{Scale}
 use Rattle.rounding.specs.declared.Cut.{Cut}
-use Rattle.rounding.specs.declared.Wide.{Wide}
+use Rattle.rounding.specs.declared.Rounding.{Rounding}
 use Rattle.rounding.specs.Cut.{cutOf, Rounds}
 use Rattle.rounding.specs.Location.{located}
 
 -- r is the whole number z, rounded; where z is 0 it has either sign
-pub record RoundsZ (β p : ℕ) (d : Direction) (z : ℤ) (r : Wide) : Type 0 where
-  pub sign : z ≡ signed (r .negative) (natAbs z)
-  pub rounds : Rounds β p d (r .negative) (natAbs z) 1 r
+pub record RoundsZ (β p : ℕ) (d : Direction) (z : ℤ) (r : Rounding) : Type 0 where
+  pub sign : z ≡ signed (r .wide .negative) (natAbs z)
+  pub rounds : Rounds β p d (r .wide .negative) (natAbs z) 1 r
 
 -- ---- for inner functions
 -- v with the sign a and w with the sign b make n with the sign c, in any unit t

@@ -2,7 +2,7 @@
 use format::Scale;
 use format::Significand;
 use rounding::Cut;
-use rounding::Wide;
+use rounding::Rounding;
 use rounding::choice::finish;
 use rounding::choice::locate;
 use rounding::cutting::cut;
@@ -170,7 +170,7 @@ pub fn fraction(
     d: u32,
     up: u32,
     down: u32,
-) -> Wide
+) -> Rounding
     requires { ⌜ Scaled scale × (1 ≤ d) × (up < 2 ^ 28) × (down < 2 ^ 28) ⌝ }
     ensures { λ r. ⌜ Rounds (scale .base) (scale .digits) direction negative (n * scale .base ^ up) (d * scale .base ^ down) r ⌝ }
 {

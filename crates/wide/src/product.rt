@@ -1,6 +1,7 @@
 // The product: the significands' product, cut.
 use format::Scale;
 use rounding::Cut;
+use rounding::Rounding;
 use rounding::Wide;
 use rounding::choice::finish;
 use rounding::cutting::cut;
@@ -26,7 +27,7 @@ fn product_cut(scale: Scale, n: u64, up: u32, down: u32) -> Cut
 }
 
 // x * y * base ^ up / base ^ down, rounded.
-pub fn product(scale: Scale, direction: Direction, x: Wide, y: Wide, up: u32, down: u32) -> Wide
+pub fn product(scale: Scale, direction: Direction, x: Wide, y: Wide, up: u32, down: u32) -> Rounding
     requires { ⌜ Scaled scale × Bounded scale x × Bounded scale y × (up < 2 ^ 28) × (down < 2 ^ 28) ⌝ }
     ensures { λ r. ⌜ Rounds (scale .base) (scale .digits) direction (xor (x .negative) (y .negative))
         (sizeOf (scale .base) x * sizeOf (scale .base) y * scale .base ^ up) (scale .base ^ down) r ⌝ }

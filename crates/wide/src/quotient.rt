@@ -2,6 +2,7 @@
 use format::Scale;
 use format::Significand;
 use rounding::Cut;
+use rounding::Rounding;
 use rounding::Wide;
 use rounding::choice::finish;
 use rounding::choice::locate;
@@ -10,6 +11,7 @@ use rounding::digits::digit_count;
 use rounding::digits::power;
 use theory::Direction;
 use theory::Location;
+use theory::Mark;
 ghost use mathlib.Core.Path.{_≡_};
 ghost use mathlib.Core.Bool.{xor};
 ghost use Prim.Native.Nat.{_+_, _*_, _<_, _≤_, _^_};
@@ -83,17 +85,27 @@ fn quotient_cut(scale: Scale, a: u64, b: u64, high: u32, low: u32) -> Cut
 }
 
 // x * base ^ up / (y * base ^ down), rounded.
-pub fn quotient(scale: Scale, direction: Direction, x: Wide, y: Wide, up: u32, down: u32) -> Wide
+pub fn quotient(
+    scale: Scale,
+    direction: Direction,
+    x: Wide,
+    y: Wide,
+    up: u32,
+    down: u32,
+) -> Rounding
     requires { ⌜ Scaled scale × Bounded scale x × Bounded scale y × (1 ≤ y .significand) × (up < 2 ^ 28) × (down < 2 ^ 28) ⌝ }
     ensures { λ r. ⌜ Rounds (scale .base) (scale .digits) direction (xor (x .negative) (y .negative))
         (sizeOf (scale .base) x * scale .base ^ up) (sizeOf (scale .base) y * scale .base ^ down) r ⌝ }
 {
     let negative = x.negative != y.negative;
     if x.significand == 0 {
-        return Wide {
-            negative: negative,
-            significand: 0,
-            place: 0,
+        return Rounding {
+            wide: Wide {
+                negative: negative,
+                significand: 0,
+                place: 0,
+            },
+            mark: Mark::Exact,
         };
     }
     let a = normalise(scale, x.significand);

@@ -2,6 +2,7 @@
 use format::Scale;
 use format::Significand;
 use rounding::Cut;
+use rounding::Rounding;
 use rounding::Wide;
 use rounding::choice::finish;
 use rounding::choice::locate;
@@ -61,7 +62,7 @@ fn near_cut(scale: Scale, n: u64, place: u32, unit: u64, gap: u32) -> Cut
 }
 
 // The sum of two numbers whose places differ by at most `digits`.
-fn near_sum(scale: Scale, direction: Direction, x: Wide, y: Wide, gap: u32) -> Wide
+fn near_sum(scale: Scale, direction: Direction, x: Wide, y: Wide, gap: u32) -> Rounding
     requires { ⌜ Scaled scale × Bounded scale x × Bounded scale y × (x .place ≡ y .place + gap) × (gap ≤ scale .digits) ⌝ }
     ensures { λ r. ⌜ RoundsZ (scale .base) (scale .digits) direction (valueOf (scale .base) x +ℤ valueOf (scale .base) y) r ⌝ }
 {
@@ -119,7 +120,7 @@ fn far_cut(scale: Scale, x: Wide, y: Wide, gap: u32) -> Cut
 }
 
 // x + y, rounded, where x has the higher place, `gap` places above that of y.
-pub fn aligned_sum(scale: Scale, direction: Direction, x: Wide, y: Wide, gap: u32) -> Wide
+pub fn aligned_sum(scale: Scale, direction: Direction, x: Wide, y: Wide, gap: u32) -> Rounding
     requires { ⌜ Scaled scale × Bounded scale x × Bounded scale y × (x .place ≡ y .place + gap) ⌝ }
     ensures { λ r. ⌜ RoundsZ (scale .base) (scale .digits) direction (valueOf (scale .base) x +ℤ valueOf (scale .base) y) r ⌝ }
 {
@@ -131,7 +132,7 @@ pub fn aligned_sum(scale: Scale, direction: Direction, x: Wide, y: Wide, gap: u3
 }
 
 // x + y, rounded, in either order.
-pub fn sum(scale: Scale, direction: Direction, x: Wide, y: Wide) -> Wide
+pub fn sum(scale: Scale, direction: Direction, x: Wide, y: Wide) -> Rounding
     requires { ⌜ Scaled scale × Bounded scale x × Bounded scale y ⌝ }
     ensures { λ r. ⌜ RoundsZ (scale .base) (scale .digits) direction (valueOf (scale .base) x +ℤ valueOf (scale .base) y) r ⌝ }
 {

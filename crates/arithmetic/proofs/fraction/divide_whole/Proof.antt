@@ -1,16 +1,17 @@
 -- `arithmetic::fraction::divide_whole` meets its contract: the fraction in the wide format, delivered.
-use Rattle.theory.proofs.Prelude.{_≤_, _<_, _^_, _∙_, _≡_, sym, arith, w32, SFits, needs}
+use Rattle.theory.proofs.Prelude.{_≤_, _<_, _^_, _∙_, ap, _≡_, sym, arith, w32, SFits, needs}
 use Rattle.format.proofs.Signed.{back}
 use Rattle.number.specs.Exponents.{aboveZero, belowZero}
 use Rattle.number.proofs.Membership.{known}
 use Rattle.number.proofs.Values.{emin-admitted}
-use Rattle.arithmetic.specs.Operations.{roundedFraction}
+use Rattle.arithmetic.specs.Marked.{marked, markedFraction}
 use Rattle.arithmetic.proofs.Prepared.{Delivers, above-most, below-most, denominator-none, scale-scaled, fraction-delivers}
 use Rattle.arithmetic.proofs.fraction.divide_whole.Statement.{statement}
 use Rattle.arithmetic.proofs.fraction.divide_whole.Tie as tie
 
 returns : tie.Need-returns
-returns c = let s = c .before .args in sym (denominator-none (s .prepared .format) (s .direction) (s .numerator) (c .if1 .taken))
+unfolding marked
+returns c = let s = c .before .args in sym (ap (marked (s .prepared .format) _ _) (denominator-none (s .prepared .format) (s .direction) (s .numerator) (c .if1 .taken)))
 
 emin-fits : (c : tie.Start) → SFits w32 (c .args .prepared .format .emin)
 emin-fits c = search needs
@@ -46,7 +47,7 @@ numerator-fits c = search needs
 
 -- what comes from the wide format
 result : (c : tie.After-fraction) → let s = start (c .before) .args in
-    Delivers (s .prepared .format) (c .fraction .result) (roundedFraction (s .prepared .format) (s .direction) (s .numerator) (s .denominator))
+    Delivers (s .prepared .format) (c .fraction .result) (markedFraction (s .prepared .format) (s .direction) (s .numerator) (s .denominator))
 result c =
     let a = c .before in
     let s = start a in

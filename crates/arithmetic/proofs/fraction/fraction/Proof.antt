@@ -7,7 +7,7 @@ use Rattle.format.specs.Directions.{direction}
 use Rattle.format.proofs.Signed.{back}
 use Rattle.number.specs.Checks.{entered}
 use Rattle.number.proofs.CheckLaws.{ends, prepared-entered, direction-after, passed, first-direction, answered}
-use Rattle.arithmetic.specs.Operations.{roundedFraction, fractioned}
+use Rattle.arithmetic.specs.Marked.{markedFraction, fractionAnswer}
 use Rattle.arithmetic.proofs.fraction.fraction.Statement.{statement}
 use Rattle.arithmetic.proofs.fraction.fraction.Tie as tie
 
@@ -28,20 +28,20 @@ divide-whole-requires : tie.Need-divide-whole-requires
 divide-whole-requires c κs = passed _ _ _ (ready (c .before .before)) .usable
 
 returns : tie.Need-returns
-unfolding fractioned
+unfolding fractionAnswer
 returns c =
     let w = c .before in
     ends _ _ _ _ (sym (checked (w .before .before)) ∙ w .why .given .1)
 
 returns-2 : tie.Need-returns-2
-unfolding fractioned
+unfolding fractionAnswer
 returns-2 c =
     let d = c .before in
     let p = d .before .before in
     let s = p .before .before .before .before in
     (c .divide-whole .ensures ∙ rw (back (s .fits .numerator)))
-    ∙ ap (λ (t : Direction). roundedFraction (p .prepared .given .0 .0 .format) t (s .args .numerator) (s .args .denominator)) (d .direction-of .ensures)
-    ∙ answered _ _ _ (λ (f : Format). roundedFraction f (direction (s .args .direction)) (s .args .numerator) (s .args .denominator)) (ready p)
+    ∙ ap (λ (t : Direction). markedFraction (p .prepared .given .0 .0 .format) t (s .args .numerator) (s .args .denominator)) (d .direction-of .ensures)
+    ∙ answered _ _ _ (λ (f : Format). markedFraction f (direction (s .args .direction)) (s .args .numerator) (s .args .denominator)) (ready p)
 
 pub fraction-spec : {M : Type 1} → statement M
 fraction-spec =

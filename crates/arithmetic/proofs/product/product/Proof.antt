@@ -6,7 +6,7 @@ use Rattle.format.specs.declared.Preparation.the-variants.{Ready}
 use Rattle.format.specs.Directions.{direction}
 use Rattle.number.specs.Checks.{entered}
 use Rattle.number.proofs.CheckLaws.{prepared-entered, direction-after, number-after, passed, first-direction, operands, answered, ends}
-use Rattle.arithmetic.specs.Operations.{roundedProduct, multiplied}
+use Rattle.arithmetic.specs.Marked.{markedProduct, productAnswer}
 use Rattle.arithmetic.proofs.product.product.Statement.{statement}
 use Rattle.arithmetic.proofs.product.product.Tie as tie
 
@@ -27,26 +27,26 @@ ready c = sym (checked (c .before .before)) ∙ c .prepared .given .1
 direction-of-requires : tie.Need-direction-of-requires
 direction-of-requires c κs = first-direction (passed _ _ _ (ready (c .before)))
 
-multiply-requires : tie.Need-multiply-requires
-multiply-requires c κs = operands (passed _ _ _ (ready (c .before .before)))
+marked-product-requires : tie.Need-marked-product-requires
+marked-product-requires c κs = operands (passed _ _ _ (ready (c .before .before)))
 
 returns : tie.Need-returns
-unfolding multiplied
+unfolding productAnswer
 returns c = let w = c .before in ends _ _ _ _ (sym (checked (w .before .before)) ∙ w .why .given .1)
 
 returns-2 : tie.Need-returns-2
-unfolding multiplied
+unfolding productAnswer
 returns-2 c =
     let d = c .before in
     let p = d .before .before in
     let s = p .before .before .before .before .before .before .args in
-    c .multiply .ensures
-    ∙ ap (λ (t : Direction). roundedProduct (p .prepared .given .0 .0 .format) t (s .a) (s .b)) (d .direction-of .ensures)
-    ∙ answered _ _ _ (λ (f : Format). roundedProduct f (direction (s .direction)) (s .a) (s .b)) (ready p)
+    c .marked-product .ensures
+    ∙ ap (λ (t : Direction). markedProduct (p .prepared .given .0 .0 .format) t (s .a) (s .b)) (d .direction-of .ensures)
+    ∙ answered _ _ _ (λ (f : Format). markedProduct f (direction (s .direction)) (s .a) (s .b)) (ready p)
 
 pub product-spec : {M : Type 1} → statement M
 product-spec =
     tie.close
     (tie.spec
     (λ c κs. search needs) (λ c κs. search needs) (λ c κs. search needs) (λ c κs. search needs) (λ c. search needs) (λ c. search needs)
-    direction-of-requires multiply-requires returns returns-2)
+    direction-of-requires marked-product-requires returns returns-2)

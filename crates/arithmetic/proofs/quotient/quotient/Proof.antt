@@ -6,7 +6,7 @@ use Rattle.format.specs.declared.Preparation.the-variants.{Ready}
 use Rattle.format.specs.Directions.{direction}
 use Rattle.number.specs.Checks.{entered}
 use Rattle.number.proofs.CheckLaws.{prepared-entered, direction-after, number-after, passed, first-direction, operands, answered, ends}
-use Rattle.arithmetic.specs.Operations.{roundedQuotient, divided}
+use Rattle.arithmetic.specs.Marked.{markedQuotient, quotientAnswer}
 use Rattle.arithmetic.proofs.quotient.quotient.Statement.{statement}
 use Rattle.arithmetic.proofs.quotient.quotient.Tie as tie
 
@@ -27,26 +27,26 @@ ready c = sym (checked (c .before .before)) ∙ c .prepared .given .1
 direction-of-requires : tie.Need-direction-of-requires
 direction-of-requires c κs = first-direction (passed _ _ _ (ready (c .before)))
 
-divide-requires : tie.Need-divide-requires
-divide-requires c κs = operands (passed _ _ _ (ready (c .before .before)))
+marked-quotient-requires : tie.Need-marked-quotient-requires
+marked-quotient-requires c κs = operands (passed _ _ _ (ready (c .before .before)))
 
 returns : tie.Need-returns
-unfolding divided
+unfolding quotientAnswer
 returns c = let w = c .before in ends _ _ _ _ (sym (checked (w .before .before)) ∙ w .why .given .1)
 
 returns-2 : tie.Need-returns-2
-unfolding divided
+unfolding quotientAnswer
 returns-2 c =
     let d = c .before in
     let p = d .before .before in
     let s = p .before .before .before .before .before .before .args in
-    c .divide .ensures
-    ∙ ap (λ (t : Direction). roundedQuotient (p .prepared .given .0 .0 .format) t (s .a) (s .b)) (d .direction-of .ensures)
-    ∙ answered _ _ _ (λ (f : Format). roundedQuotient f (direction (s .direction)) (s .a) (s .b)) (ready p)
+    c .marked-quotient .ensures
+    ∙ ap (λ (t : Direction). markedQuotient (p .prepared .given .0 .0 .format) t (s .a) (s .b)) (d .direction-of .ensures)
+    ∙ answered _ _ _ (λ (f : Format). markedQuotient f (direction (s .direction)) (s .a) (s .b)) (ready p)
 
 pub quotient-spec : {M : Type 1} → statement M
 quotient-spec =
     tie.close
     (tie.spec
     (λ c κs. search needs) (λ c κs. search needs) (λ c κs. search needs) (λ c κs. search needs) (λ c. search needs) (λ c. search needs)
-    direction-of-requires divide-requires returns returns-2)
+    direction-of-requires marked-quotient-requires returns returns-2)

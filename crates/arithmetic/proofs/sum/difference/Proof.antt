@@ -6,7 +6,7 @@ use Rattle.format.specs.declared.Preparation.the-variants.{Ready}
 use Rattle.format.specs.Directions.{direction}
 use Rattle.number.specs.Checks.{entered}
 use Rattle.number.proofs.CheckLaws.{prepared-entered, direction-after, number-after, passed, first-direction, operands, answered, ends}
-use Rattle.arithmetic.specs.Operations.{roundedDifference, subtracted}
+use Rattle.arithmetic.specs.Marked.{markedDifference, differenceAnswer}
 use Rattle.arithmetic.proofs.sum.difference.Statement.{statement}
 use Rattle.arithmetic.proofs.sum.difference.Tie as tie
 
@@ -27,26 +27,26 @@ ready c = sym (checked (c .before .before)) ∙ c .prepared .given .1
 direction-of-requires : tie.Need-direction-of-requires
 direction-of-requires c κs = first-direction (passed _ _ _ (ready (c .before)))
 
-subtract-requires : tie.Need-subtract-requires
-subtract-requires c κs = operands (passed _ _ _ (ready (c .before .before)))
+marked-difference-requires : tie.Need-marked-difference-requires
+marked-difference-requires c κs = operands (passed _ _ _ (ready (c .before .before)))
 
 returns : tie.Need-returns
-unfolding subtracted
+unfolding differenceAnswer
 returns c = let w = c .before in ends _ _ _ _ (sym (checked (w .before .before)) ∙ w .why .given .1)
 
 returns-2 : tie.Need-returns-2
-unfolding subtracted
+unfolding differenceAnswer
 returns-2 c =
     let d = c .before in
     let p = d .before .before in
     let s = p .before .before .before .before .before .before .args in
-    c .subtract .ensures
-    ∙ ap (λ (t : Direction). roundedDifference (p .prepared .given .0 .0 .format) t (s .a) (s .b)) (d .direction-of .ensures)
-    ∙ answered _ _ _ (λ (f : Format). roundedDifference f (direction (s .direction)) (s .a) (s .b)) (ready p)
+    c .marked-difference .ensures
+    ∙ ap (λ (t : Direction). markedDifference (p .prepared .given .0 .0 .format) t (s .a) (s .b)) (d .direction-of .ensures)
+    ∙ answered _ _ _ (λ (f : Format). markedDifference f (direction (s .direction)) (s .a) (s .b)) (ready p)
 
 pub difference-spec : {M : Type 1} → statement M
 difference-spec =
     tie.close
     (tie.spec
     (λ c κs. search needs) (λ c κs. search needs) (λ c κs. search needs) (λ c κs. search needs) (λ c. search needs) (λ c. search needs)
-    direction-of-requires subtract-requires returns returns-2)
+    direction-of-requires marked-difference-requires returns returns-2)

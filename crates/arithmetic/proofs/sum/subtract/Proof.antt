@@ -1,25 +1,12 @@
--- `arithmetic::sum::subtract` meets its contract: the sum with the second number negated.
-use Rattle.theory.proofs.Prelude.{_∙_, ap, ℤ, _+ℤ_, needs}
-use Rattle.number.specs.Numbers.{value}
-use Rattle.number.proofs.Membership.{known}
-use Rattle.arithmetic.specs.Operations.{roundedZ}
-use Rattle.arithmetic.proofs.Prepared.{turned-member, turned-value}
+-- `arithmetic::sum::subtract` meets its contract.
+use Rattle.theory.proofs.Prelude.{_∙_, ap, needs}
+use Rattle.arithmetic.specs.Marked.{withoutMark}
+use Rattle.arithmetic.proofs.Prepared.{marked-number}
 use Rattle.arithmetic.proofs.sum.subtract.Statement.{statement}
 use Rattle.arithmetic.proofs.sum.subtract.Tie as tie
 
-add-requires : tie.Need-add-requires
-add-requires c κs =
-    let s = c .before .before in
-    let p = s .pre in
-    record { usable = p .usable; first = p .first; second = turned-member (known (p .usable) .admits) (s .args .b) (p .second) (c .with-sign .ensures) }
-
 returns : tie.Need-returns
-returns c =
-    let s = c .before .before .before in
-    let f = s .args .prepared .format in
-    c .add .ensures
-    ∙ ap (λ (v : ℤ). roundedZ f (s .args .direction) (value f (s .args .a) +ℤ v))
-    (turned-value (known (s .pre .usable) .admits) (s .args .b) (s .pre .second) (c .before .with-sign .ensures))
+returns c = c .unmarked .ensures ∙ ap withoutMark (c .before .marked-difference .ensures) ∙ marked-number _ _ _ _
 
 pub subtract-spec : {M : Type 1} → statement M
-subtract-spec = tie.close (tie.spec (λ c κs. search needs) add-requires returns)
+subtract-spec = tie.close (tie.spec (λ c κs. search needs) (λ c κs. search needs) returns)

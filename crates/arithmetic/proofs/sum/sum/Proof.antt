@@ -6,7 +6,7 @@ use Rattle.format.specs.declared.Preparation.the-variants.{Ready}
 use Rattle.format.specs.Directions.{direction}
 use Rattle.number.specs.Checks.{entered}
 use Rattle.number.proofs.CheckLaws.{prepared-entered, direction-after, number-after, passed, first-direction, operands, answered, ends}
-use Rattle.arithmetic.specs.Operations.{roundedSum, summed}
+use Rattle.arithmetic.specs.Marked.{markedSum, sumAnswer}
 use Rattle.arithmetic.proofs.sum.sum.Statement.{statement}
 use Rattle.arithmetic.proofs.sum.sum.Tie as tie
 
@@ -27,26 +27,26 @@ ready c = sym (checked (c .before .before)) ∙ c .prepared .given .1
 direction-of-requires : tie.Need-direction-of-requires
 direction-of-requires c κs = first-direction (passed _ _ _ (ready (c .before)))
 
-add-requires : tie.Need-add-requires
-add-requires c κs = operands (passed _ _ _ (ready (c .before .before)))
+marked-sum-requires : tie.Need-marked-sum-requires
+marked-sum-requires c κs = operands (passed _ _ _ (ready (c .before .before)))
 
 returns : tie.Need-returns
-unfolding summed
+unfolding sumAnswer
 returns c = let w = c .before in ends _ _ _ _ (sym (checked (w .before .before)) ∙ w .why .given .1)
 
 returns-2 : tie.Need-returns-2
-unfolding summed
+unfolding sumAnswer
 returns-2 c =
     let d = c .before in
     let p = d .before .before in
     let s = p .before .before .before .before .before .before .args in
-    c .add .ensures
-    ∙ ap (λ (t : Direction). roundedSum (p .prepared .given .0 .0 .format) t (s .a) (s .b)) (d .direction-of .ensures)
-    ∙ answered _ _ _ (λ (f : Format). roundedSum f (direction (s .direction)) (s .a) (s .b)) (ready p)
+    c .marked-sum .ensures
+    ∙ ap (λ (t : Direction). markedSum (p .prepared .given .0 .0 .format) t (s .a) (s .b)) (d .direction-of .ensures)
+    ∙ answered _ _ _ (λ (f : Format). markedSum f (direction (s .direction)) (s .a) (s .b)) (ready p)
 
 pub sum-spec : {M : Type 1} → statement M
 sum-spec =
     tie.close
     (tie.spec
     (λ c κs. search needs) (λ c κs. search needs) (λ c κs. search needs) (λ c κs. search needs) (λ c. search needs) (λ c. search needs)
-    direction-of-requires add-requires returns returns-2)
+    direction-of-requires marked-sum-requires returns returns-2)

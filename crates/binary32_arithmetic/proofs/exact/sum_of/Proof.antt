@@ -12,7 +12,7 @@ sum-requires c κs =
     (scaled-here e, bounded-here e {k = 300} (omega arith) (p .0), bounded-here e {k = 300} (omega arith) (p .1))
 
 returns : tie.Need-returns
-returns c = sum-here (ap (λ (q : Prepared). q .scale) (c .before .prepared-binary32 .ensures)) _ _ _ (c .sum .ensures)
+returns c = let s = c .before in sum-here (ap (λ (q : Prepared). q .scale) (s .before .prepared-binary32 .ensures)) _ _ _ (s .sum .ensures)
 
 pub sum-of-spec : {M : Type 1} → statement M
 sum-of-spec = tie.close (tie.spec (λ c κs. search needs) sum-requires returns)

@@ -1,42 +1,79 @@
--- `binary32_arithmetic::slices::write_sums` meets its contract: what is written and the sums of the rest are all sums.
-use Rattle.theory.proofs.Prelude.{_≤_, _+_, _-_, _++_, append-nil, _∙_, ap, _≡_, sym, arith, length, getD, drop, take, take-all, needs}
+-- `binary32_arithmetic::slices::write_sums` meets its contract: what is written and the sums of the rest are all sums, and so are the
+-- counts of those that are not exact.
+use Rattle.theory.proofs.Prelude.{ℕ, _≤_, _+_, _-_, _++_, append-nil, _∙_, ap, _≡_, sym, refl, arith, length, getD, drop, take, take-all, needs}
+use mir.Facts.{fits-le}
+use mir.Syntax.{w64}
+use mir.Val.{Fits}
+use Rattle.binary32_arithmetic.specs.declared.WrittenEntry.{WrittenEntry}
 use Rattle.binary32_arithmetic.specs.declared.Operation.the-variants.{Sum}
 use Rattle.binary32_arithmetic.specs.Calls.{onPatterns}
-use Rattle.binary32_arithmetic.specs.Slices.{written, sums}
-use Rattle.binary32_arithmetic.proofs.Passes.{written-step, sums-end}
+use Rattle.binary32_arithmetic.specs.Slices.{entryWritten, written, sums, markedEntry, inexactIn, inexactEntries}
+use Rattle.binary32_arithmetic.proofs.Passes.{written-step, sums-end, inexact-step, inexact-end, inexact-most, marked-written}
 use Rattle.binary32_arithmetic.proofs.slices.write_sums.Statement.{statement}
 use Rattle.binary32_arithmetic.proofs.slices.write_sums.Tie as tie
 
 abbrev Inv-loop : tie.InvT-loop
-Inv-loop direction a b out₀ i₀ out i =
-    (i ≤ length a) × (length out ≡ length out₀) × (take i out ++ sums direction (drop i a) (drop i b) ≡ sums direction a b)
+Inv-loop direction a b out₀ inexact₀ i₀ out inexact i =
+    (i ≤ length a) × (length out ≡ length out₀) × (inexact ≤ i)
+    × (inexact + inexactEntries direction (drop i a) (drop i b) ≡ inexactEntries direction a b)
+    × (take i out ++ sums direction (drop i a) (drop i b) ≡ sums direction a b)
 
 abbrev μ-loop : tie.MeasureT-loop
-μ-loop direction a b out₀ i₀ out i = length a - i
+μ-loop direction a b out₀ inexact₀ i₀ out inexact i = length a - i
+
+loop-holds : tie.Need-loop-holds Inv-loop μ-loop
+loop-holds c = (omega arith, refl, omega arith, omega arith, refl)
+
+module _ (c : tie.After-struct-known Inv-loop μ-loop) where
+  abbrev at : tie.In-loop Inv-loop μ-loop
+  at = c .before .before .before .before
+
+  abbrev start : tie.Start Inv-loop μ-loop
+  start = at .before .before .before .before .before
+
+  abbrev i : ℕ
+  i = at .before .loop .done
+
+  -- the entry that is written
+  entry : c .before .sum-entry .result ≡ entryWritten (markedEntry (start .args .direction) (getD (start .args .a .now) i 0) (getD (start .args .b .now) i 0))
+  entry = c .before .sum-entry .ensures
+
+  counted : c .before .sum-entry .result .inexact ≡ inexactIn (markedEntry (start .args .direction) (getD (start .args .a .now) i 0) (getD (start .args .b .now) i 0))
+  counted = ap (λ (e : WrittenEntry). e .inexact) entry
+
+  fewer : at .before .loop .inexact + c .before .sum-entry .result .inexact ≤ i + 1
+  fewer = omega (arith, counted, inexact-most (markedEntry (start .args .direction) (getD (start .args .a .now) i 0) (getD (start .args .b .now) i 0)), at .before .loop .inv .2)
+
+add-inexact : tie.Need-add-inexact Inv-loop μ-loop
+add-inexact c = let f : Fits w64 (i c + 1) = search needs in fits-le (fewer c) f
 
 loop-again : tie.Need-loop-again Inv-loop μ-loop
 loop-again c =
-    let j = c .before .before .before .before .before in
-    let st = j .before .before .before .before in
-    let v : c .written-or-zero .result ≡ written (onPatterns Sum (st .args .direction) (getD (st .args .a .now) (j .loop .done) 0) (getD (st .args .b .now) (j .loop .done) 0)) =
-    c .written-or-zero .ensures ∙ ap written (c .before .operate-on-patterns .ensures) in (
+    let s = start c .args in
+    let l = at c .before .loop in
+    let v : c .before .sum-entry .result .pattern ≡ written (onPatterns Sum (s .direction) (getD (s .a .now) (i c) 0) (getD (s .b .now) (i c) 0)) =
+    ap (λ (e : WrittenEntry). e .pattern) (entry c) ∙ ap written (marked-written _ _ _) in (
       search needs,
       search needs,
-      written-step (st .args .direction) (j .loop .done) (c .written-or-zero .result) (st .args .a .now) (st .args .b .now) (j .loop .out) (omega arith) (st .pre .0) (omega arith) v
-          ∙ j .loop .inv .2,
+      fewer c,
+      omega (arith, l .inv .3, counted c, inexact-step (s .direction) (i c) (s .a .now) (s .b .now) (omega arith) (start c .pre .0)),
+      written-step (s .direction) (i c) (c .before .sum-entry .result .pattern) (s .a .now) (s .b .now) (l .out) (omega arith) (start c .pre .0) (omega arith) v ∙ l .inv .4,
     )
 
 returns : tie.Need-returns Inv-loop μ-loop
 returns c =
     let st = c .before .before .before .before .before in
-    let end : c .before .loop .done ≡ length (st .args .a .now) = omega arith in
-    let all : take (c .before .loop .done) (c .before .loop .out) ≡ c .before .loop .out = take-all (c .before .loop .done) (c .before .loop .out) (omega arith) in
-    sym (append-nil (c .before .loop .out))
-    ∙ (simp (all, sums-end (st .args .direction) (c .before .loop .done) (st .args .a .now) (st .args .b .now) end) at (c .before .loop .inv .2))
+    let s = st .args in
+    let l = c .before .loop in
+    let end : l .done ≡ length (s .a .now) = omega arith in
+    let all : take (l .done) (l .out) ≡ l .out = take-all (l .done) (l .out) (omega arith) in (
+      omega (arith, l .inv .3, inexact-end (s .direction) (l .done) (s .a .now) (s .b .now) end),
+      sym (append-nil (l .out)) ∙ (simp (all, sums-end (s .direction) (l .done) (s .a .now) (s .b .now) end) at (l .inv .4)),
+    )
 
 pub write-sums-spec : {M : Type 1} → statement M
 write-sums-spec =
     tie.close
     (tie.spec
-    Inv-loop μ-loop (λ c. search needs) (λ c. search needs) (λ c. search needs) (λ c. search needs) (λ c. search needs) (λ c κs. search needs)
-    (λ c κs. search needs) (λ c. search needs) (λ c. search needs) (λ c. search needs) (λ c. search needs) loop-again (λ c. search needs) returns)
+    Inv-loop μ-loop loop-holds (λ c. search needs) (λ c. search needs) (λ c. search needs) (λ c. search needs) (λ c κs. search needs)
+    (λ c. search needs) (λ c. search needs) add-inexact (λ c. search needs) (λ c. search needs) loop-again (λ c. search needs) returns)

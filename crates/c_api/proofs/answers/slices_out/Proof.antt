@@ -15,13 +15,13 @@ abbrev at : (index n : ℕ) → SlicesOut
 at index n = slicesOut (refusedAt n index)
 
 returns : tie.Need-returns
-returns c = sym (ap out (c .enum-told .given .1))
+returns c = sym (ap out (c .before .answer .given .1))
 
 returns-2 : tie.Need-returns-2
-returns-2 c = ap (λ (n : ℕ). slicesOut (refused n)) (c .refusal-number .ensures) ∙ sym (ap out (c .before .before .answer .given .1))
+returns-2 c = ap (λ (n : ℕ). slicesOut (refused n)) (c .refusal-number .ensures) ∙ sym (ap out (c .before .before .answer2 .given .1))
 
 returns-3 : tie.Need-returns-3
-returns-3 c = ap (at _) (c .refusal-number2 .ensures) ∙ sym (ap out (c .before .before .answer2 .given .1))
+returns-3 c = ap (at _) (c .refusal-number2 .ensures) ∙ sym (ap out (c .before .before .answer3 .given .1))
 
 pub slices-out-spec : {M : Type 1} → statement M
 slices-out-spec =

@@ -1,5 +1,5 @@
 -- `c_api::patterns::zurkeb_sum_slices` meets its contract.
-use Rattle.theory.proofs.Prelude.{_∙_, ap, needs}
+use Rattle.theory.proofs.Prelude.{ℕ, _∙_, ap, needs}
 use Rattle.format.specs.Directions.{direction}
 use Rattle.format.specs.Given.{Given}
 use Rattle.binary32_arithmetic.specs.Slices.{sums, slicesWritten}
@@ -12,7 +12,7 @@ returns c =
     let j = c .before .before .before in
     let s = j .before .before .before .before .before .args in (
       c .slices-out .ensures ∙ ap slicesOut (j .sum-slices .ensures .0),
-      j .sum-slices .ensures .1 ∙ ap (λ (r : Given Unit). slicesWritten r (sums (direction (s .direction)) (s .a .now) (s .b .now)) (s .out .now)) (j .sum-slices .ensures .0),
+      j .sum-slices .ensures .1 ∙ ap (λ (r : Given ℕ). slicesWritten r (sums (direction (s .direction)) (s .a .now) (s .b .now)) (s .out .now)) (j .sum-slices .ensures .0),
     )
 
 pub zurkeb-sum-slices-spec : {M : Type 1} → statement M

@@ -6,9 +6,9 @@ use lib.ListN.{List·getD-eq-default}
 use Rattle.format.specs.declared.Format.{Format}
 use Rattle.format.specs.Given.{Given}
 use Rattle.number.specs.declared.Number.{Number}
-use Rattle.arithmetic.specs.Operations.{fractioned}
+use Rattle.arithmetic.specs.Marked.{withoutMark, fractionAnswer}
 use Rattle.fast_two_sum.specs.Calls.{fastTwoSum}
-use Rattle.vectors.specs.Calls.{calls, wholeOrder, patternNumber, firstOfSteps, answerOf}
+use Rattle.vectors.specs.Calls.{calls, wholeOrder, patternNumber, inexactWhole, firstOfSteps, answerOf}
 use Rattle.vectors.proofs.calls.answer_of.Statement.{statement}
 use Rattle.vectors.proofs.calls.answer_of.Tie as tie
 
@@ -24,7 +24,7 @@ none-below : (n k : ℕ) → NoneBelow n k → k ≤ n
 none-below n zero r = omega arith
 none-below n (suc k) r = let l = none-below n k (r .0) in let d = r .1 in omega arith
 
-past : (operation : ℕ) → 15 ≤ operation → (f : Format) (d : ℕ) (a b : Number) → firstOfSteps (fastTwoSum f d d d a b) ≡ answerOf operation f d a b
+past : (operation : ℕ) → 19 ≤ operation → (f : Format) (d : ℕ) (a b : Number) → firstOfSteps (fastTwoSum f d d d a b) ≡ answerOf operation f d a b
 unfolding answerOf
 past operation h f d a b = sym (List·getD-eq-default (calls f d a b) (firstOfSteps (fastTwoSum f d d d a b)) {n = operation} h)
 
@@ -34,9 +34,11 @@ numerator-fits c = search needs
 is-fraction : tie.Need-returns-5
 unfolding answerOf
 is-fraction c =
-    let s = c .before .before .before in
-    known (c .before .before .match .keys5) _ _ _ _
-    (c .fraction .ensures ∙ ap (λ (z : ℤ). fractioned (s .args .format) (s .args .d) z (s .args .b .significand)) (back (numerator-fits s)))
+    let k = c .before .before .before in
+    let s = k .before in
+    known (k .match .keys5) _ _ _ _
+    (c .unmarked5 .ensures
+    ∙ ap withoutMark (c .before .fraction .ensures ∙ ap (λ (z : ℤ). fractionAnswer (s .args .format) (s .args .d) z (s .args .b .significand)) (back (numerator-fits s))))
 
 pub answer-of-spec : {M : Type 1} → statement M
 unfolding answerOf
@@ -47,9 +49,13 @@ answer-of-spec =
     (λ c κs. search needs) (λ c κs. search needs) (λ c κs. search needs) (λ c κs. search needs) (λ c κs. search needs)
     (λ c κs. search needs) (λ c κs. search needs) (λ c κs. search needs) (λ c κs. search needs) (λ c κs. search needs)
     (λ c κs. search needs) (λ c κs. search needs) (λ c κs. search needs) (λ c κs. search needs) (λ c κs. search needs)
-    (λ c κs. search needs) (λ c κs. search needs) (λ c. known (c .before .match .keys1) _ _ _ _ (c .sum .ensures))
-    (λ c. known (c .before .match .keys2) _ _ _ _ (c .difference .ensures)) (λ c. known (c .before .match .keys3) _ _ _ _ (c .product .ensures))
-    (λ c. known (c .before .match .keys4) _ _ _ _ (c .quotient .ensures)) is-fraction
+    (λ c κs. search needs) (λ c κs. search needs) (λ c κs. search needs) (λ c κs. search needs) (λ c κs. search needs)
+    (λ c κs. search needs) (λ c κs. search needs) (λ c κs. search needs) (λ c κs. search needs) (λ c κs. search needs)
+    (λ c κs. search needs) (λ c κs. search needs) (λ c κs. search needs) (λ c κs. search needs) (λ c κs. search needs)
+    (λ c. known (c .before .before .match .keys1) _ _ _ _ (c .unmarked .ensures ∙ ap withoutMark (c .before .sum .ensures)))
+    (λ c. known (c .before .before .match .keys2) _ _ _ _ (c .unmarked2 .ensures ∙ ap withoutMark (c .before .difference .ensures)))
+    (λ c. known (c .before .before .match .keys3) _ _ _ _ (c .unmarked3 .ensures ∙ ap withoutMark (c .before .product .ensures)))
+    (λ c. known (c .before .before .match .keys4) _ _ _ _ (c .unmarked4 .ensures ∙ ap withoutMark (c .before .quotient .ensures))) is-fraction
     (λ c. known (c .before .before .match .keys6) _ _ _ _ (c .order-number .ensures ∙ ap wholeOrder (c .before .compare .ensures)))
     (λ c. known (c .before .match .keys7) _ _ _ _ (c .magnitude .ensures)) (λ c. known (c .before .match .keys8) _ _ _ _ (c .negate .ensures))
     (λ c. known (c .before .match .keys9) _ _ _ _ (c .predecessor .ensures)) (λ c. known (c .before .match .keys10) _ _ _ _ (c .successor .ensures))
@@ -58,4 +64,8 @@ answer-of-spec =
     (λ c. known (c .before .before .match .keys13) _ _ _ _ (c .pattern-number2 .ensures ∙ ap patternNumber (c .before .pattern-difference .ensures)))
     (λ c. known (c .before .before .match .keys14) _ _ _ _ (c .pattern-number3 .ensures ∙ ap patternNumber (c .before .pattern-product .ensures)))
     (λ c. known (c .before .before .match .keys15) _ _ _ _ (c .pattern-number4 .ensures ∙ ap patternNumber (c .before .pattern-quotient .ensures)))
-    (λ c. c .first-step .ensures ∙ ap firstOfSteps (c .before .fast-two-sum .ensures) ∙ past _ (none-below _ 15 (c .before .before .match .rest)) _ _ _ _))
+    (λ c. known (c .before .before .match .keys16) _ _ _ _ (c .inexact-number .ensures ∙ ap inexactWhole (c .before .sum2 .ensures)))
+    (λ c. known (c .before .before .match .keys17) _ _ _ _ (c .inexact-number2 .ensures ∙ ap inexactWhole (c .before .difference2 .ensures)))
+    (λ c. known (c .before .before .match .keys18) _ _ _ _ (c .inexact-number3 .ensures ∙ ap inexactWhole (c .before .product2 .ensures)))
+    (λ c. known (c .before .before .match .keys19) _ _ _ _ (c .inexact-number4 .ensures ∙ ap inexactWhole (c .before .quotient2 .ensures)))
+    (λ c. c .first-step .ensures ∙ ap firstOfSteps (c .before .fast-two-sum .ensures) ∙ past _ (none-below _ 19 (c .before .before .match .rest)) _ _ _ _))
