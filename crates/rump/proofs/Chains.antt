@@ -13,8 +13,8 @@ use Rattle.number.specs.declared.NumberAnswer.the-variants.{Value, Refused}
 use Rattle.arithmetic.specs.Operations.{roundedProduct}
 use Rattle.arithmetic.specs.Outcomes.{Outcome, given, too-large}
 use Rattle.arithmetic.proofs.Outcome.{rounded-outcome, roundedZ-outcome}
-use Rattle.rump.specs.declared.Operation.{Operation}
-use Rattle.rump.specs.declared.Operation.the-variants.{Sum, Difference, Product}
+use Rattle.rump.specs.declared.LineOperation.{LineOperation}
+use Rattle.rump.specs.declared.LineOperation.the-variants.{Sum, Difference, Product}
 use Rattle.rump.specs.Figures.{power, subrealmin, operationOf, joined, Settled, Answers, figure1, figure3, gap, figure4, defect, figure5}
 
 -- ---- one line
@@ -22,13 +22,13 @@ settled : {f : Format} {d : Direction} {N : ℤ} {D : ℕ} {g : Given Number} �
 settled (given g) = g .member
 settled (too-large l) = refl
 
-operation-settled : {f : Format} → Admitted f → (o : Operation) (d : Direction) (x y : Number) → Settled f (operationOf o f d x y)
+operation-settled : {f : Format} → Admitted f → (o : LineOperation) (d : Direction) (x y : Number) → Settled f (operationOf o f d x y)
 unfolding roundedProduct
 operation-settled a Sum d x y = settled (roundedZ-outcome a d _)
 operation-settled a Difference d x y = settled (roundedZ-outcome a d _)
 operation-settled {f} a Product d x y = settled (rounded-outcome a d _ _ (pow-pos (a .base-low) (belowZero (f .emin))))
 
-module _ (o : Operation) (f : Format) (d : Direction) {a : NumberAnswer} where
+module _ (o : LineOperation) (f : Format) (d : Direction) {a : NumberAnswer} where
   pub first-ends : {why : Refusal} (w : Given Number) → a ≡ Refused why → Settled f (numberGiven a) → Answers f (joined o f d (numberGiven a) w) a
   unfolding joined
   first-ends w e s = record { is = rw e; settled = s }
@@ -38,7 +38,7 @@ module _ (o : Operation) (f : Format) (d : Direction) {a : NumberAnswer} where
   unfolding joined
   second-ends e h s = record { is = rw (e, h); settled = s }
 
-  pub both-given : {b : NumberAnswer} {x y : Number} {r : NumberAnswer} {arm : Operation} → Admitted f → a ≡ Value x → b ≡ Value y → o ≡ arm
+  pub both-given : {b : NumberAnswer} {x y : Number} {r : NumberAnswer} {arm : LineOperation} → Admitted f → a ≡ Value x → b ≡ Value y → o ≡ arm
       → numberGiven r ≡ operationOf arm f d x y → Answers f (joined o f d (numberGiven a) (numberGiven b)) r
   unfolding joined
   both-given {x = x} {y = y} {arm = arm} ok e h t g = record { is = rw (e, h, t) g; settled = rw g (operation-settled ok arm d x y) }
@@ -47,7 +47,7 @@ pub number-settled : (f : Format) {r : NumberAnswer} {x : Number} → r ≡ Valu
 number-settled f e s = rw e at s
 
 -- ---- some lines
-pub joins : (o : Operation) (f : Format) (d : Direction) {r v w x y : Given Number} → r ≡ joined o f d v w → v ≡ x → w ≡ y → r ≡ joined o f d x y
+pub joins : (o : LineOperation) (f : Format) (d : Direction) {r v w x y : Given Number} → r ≡ joined o f d v w → v ≡ x → w ≡ y → r ≡ joined o f d x y
 joins o f d e h k = e ∙ ap₂ (joined o f d) h k
 
 regroup : (g : Given Number) (next onward : Number → Given Number) → (g then next) then onward ≡ g then λ x. next x then onward

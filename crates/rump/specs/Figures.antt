@@ -13,8 +13,8 @@ use Rattle.number.specs.Answers.{numberGiven}
 use Rattle.number.specs.Exponents.{belowZero}
 use Rattle.number.specs.Numbers.{equalZ, member, value, number}
 use Rattle.arithmetic.specs.Operations.{roundedSum, roundedDifference, roundedProduct}
-use Rattle.rump.specs.declared.Operation.{Operation}
-use Rattle.rump.specs.declared.Operation.the-variants.{Sum, Difference, Product}
+use Rattle.rump.specs.declared.LineOperation.{LineOperation}
+use Rattle.rump.specs.declared.LineOperation.the-variants.{Sum, Difference, Product}
 
 -- ---- the constants, for Emin at most 0
 -- 1 in units of β ^ Emin
@@ -30,12 +30,12 @@ abbrev pub subrealmin : Format → Number
 subrealmin f = number f false 1
 
 -- ---- a line of the code: an operation on what two lines gave, or the refusal that one of them met
-abbrev pub operationOf : Operation → Format → Direction → (a b : Number) → Given Number
+abbrev pub operationOf : LineOperation → Format → Direction → (a b : Number) → Given Number
 operationOf Sum f d a b = roundedSum f d a b
 operationOf Difference f d a b = roundedDifference f d a b
 operationOf Product f d a b = roundedProduct f d a b
 
-unfoldable pub joined : Operation → Format → Direction → (a b : Given Number) → Given Number
+unfoldable pub joined : LineOperation → Format → Direction → (a b : Given Number) → Given Number
 joined o f d a b = a then λ x. b then λ y. operationOf o f d x y
 
 -- a number of the format, or refusal 5

@@ -1,7 +1,7 @@
 // Rump's figures, line by line: the first place toward zero (figure 1), the last place up (figure 3), toward zero (figure 4), and
 // toward zero without a test (figure 5).
 use crate::Figure;
-use crate::Operation;
+use crate::LineOperation;
 use crate::constants::power;
 use crate::constants::subrealmin;
 use arithmetic::product::multiply;
@@ -23,7 +23,7 @@ ghost use Rattle.rump.specs.Routes.{figureOf};
 // A line: an operation on what two lines gave, or the refusal that one of them met.
 fn line(
     prepared: Prepared,
-    operation: Operation,
+    operation: LineOperation,
     direction: Direction,
     a: NumberAnswer,
     b: NumberAnswer,
@@ -38,9 +38,9 @@ fn line(
         return b;
     };
     match operation {
-        Operation::Sum => add(prepared, direction, x, y),
-        Operation::Difference => subtract(prepared, direction, x, y),
-        Operation::Product => multiply(prepared, direction, x, y),
+        LineOperation::Sum => add(prepared, direction, x, y),
+        LineOperation::Difference => subtract(prepared, direction, x, y),
+        LineOperation::Product => multiply(prepared, direction, x, y),
     }
 }
 
@@ -53,12 +53,12 @@ fn first_figure(prepared: Prepared, x: Number) -> NumberAnswer
     let size = NumberAnswer::Value(x);
     let one = power(prepared, 0);
     let least = subrealmin(prepared);
-    let p1 = line(prepared, Operation::Difference, direction, one, least);
+    let p1 = line(prepared, LineOperation::Difference, direction, one, least);
     let lead = power(prepared, prepared.scale.digits - 1);
-    let phi = line(prepared, Operation::Sum, direction, lead, one);
-    let q = line(prepared, Operation::Product, direction, phi, size);
-    let r = line(prepared, Operation::Product, direction, p1, q);
-    line(prepared, Operation::Difference, direction, q, r)
+    let phi = line(prepared, LineOperation::Sum, direction, lead, one);
+    let q = line(prepared, LineOperation::Product, direction, phi, size);
+    let r = line(prepared, LineOperation::Product, direction, p1, q);
+    line(prepared, LineOperation::Difference, direction, q, r)
 }
 
 // Figure 3: s = x + subrealmin, S = s - x, rounded up.
@@ -69,8 +69,8 @@ fn third_figure(prepared: Prepared, x: Number) -> NumberAnswer
     let direction = Direction::Upward;
     let size = NumberAnswer::Value(x);
     let least = subrealmin(prepared);
-    let s = line(prepared, Operation::Sum, direction, size, least);
-    line(prepared, Operation::Difference, direction, s, size)
+    let s = line(prepared, LineOperation::Sum, direction, size, least);
+    line(prepared, LineOperation::Difference, direction, s, size)
 }
 
 // Figures 4 and 5, lines 3 and 4: p = x - subrealmin, S = x - p.
@@ -81,8 +81,8 @@ fn gap(prepared: Prepared, x: Number) -> NumberAnswer
     let direction = Direction::TowardZero;
     let size = NumberAnswer::Value(x);
     let least = subrealmin(prepared);
-    let p = line(prepared, Operation::Difference, direction, size, least);
-    line(prepared, Operation::Difference, direction, size, p)
+    let p = line(prepared, LineOperation::Difference, direction, size, least);
+    line(prepared, LineOperation::Difference, direction, size, p)
 }
 
 // Figure 4: S * base where x + S gives x, and S elsewhere.
@@ -93,13 +93,13 @@ fn fourth_figure(prepared: Prepared, x: Number) -> NumberAnswer
     let direction = Direction::TowardZero;
     let size = NumberAnswer::Value(x);
     let s = gap(prepared, x);
-    let raised = line(prepared, Operation::Sum, direction, size, s);
+    let raised = line(prepared, LineOperation::Sum, direction, size, s);
     let NumberAnswer::Value(next) = raised else {
         return raised;
     };
     if same_value(prepared.format, next, x) {
         let factor = power(prepared, 1);
-        return line(prepared, Operation::Product, direction, s, factor);
+        return line(prepared, LineOperation::Product, direction, s, factor);
     }
     s
 }
@@ -112,14 +112,14 @@ fn fifth_figure(prepared: Prepared, x: Number) -> NumberAnswer
     let direction = Direction::TowardZero;
     let size = NumberAnswer::Value(x);
     let s = gap(prepared, x);
-    let raised = line(prepared, Operation::Sum, direction, size, s);
-    let back = line(prepared, Operation::Difference, direction, raised, size);
-    let d = line(prepared, Operation::Difference, direction, back, s);
+    let raised = line(prepared, LineOperation::Sum, direction, size, s);
+    let back = line(prepared, LineOperation::Difference, direction, raised, size);
+    let d = line(prepared, LineOperation::Difference, direction, back, s);
     let base = power(prepared, 1);
     let one = power(prepared, 0);
-    let b = line(prepared, Operation::Difference, direction, base, one);
-    let c = line(prepared, Operation::Product, direction, b, d);
-    line(prepared, Operation::Difference, direction, s, c)
+    let b = line(prepared, LineOperation::Difference, direction, base, one);
+    let c = line(prepared, LineOperation::Product, direction, b, d);
+    line(prepared, LineOperation::Difference, direction, s, c)
 }
 
 pub fn run(figure: Figure, prepared: Prepared, x: Number) -> NumberAnswer

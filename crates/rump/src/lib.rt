@@ -13,7 +13,7 @@ pub enum Figure {
 }
 
 // What a line of a figure does with two numbers.
-pub enum Operation {
+pub enum LineOperation {
     Sum,
     Difference,
     Product,

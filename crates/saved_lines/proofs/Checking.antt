@@ -7,7 +7,7 @@ use Rattle.format.specs.Given.{gives, refused, refusedAt, _then_}
 use Rattle.binary32.specs.Patterns.{finite, notFinite, patternValue, patternValues}
 use Rattle.saved_lines.specs.declared.Check.{Check}
 use Rattle.saved_lines.specs.Offsets.{nearest, descends, repeats}
-use Rattle.saved_lines.specs.Lines.{Examination, passed, checked, patternsChecked, ascentChecked, linesChecked, Checked, nearestLine}
+use Rattle.saved_lines.specs.Lines.{Examination, passed, listGiven, patternsChecked, ascentChecked, linesChecked, Checked, nearestLine}
 
 -- ---- the refusals, one after the other
 module _ (l : List ℕ) (t : Bool) where
@@ -86,15 +86,15 @@ passed-checks l t h =
     )
 
 -- ---- the answer of nearest_line, after a check that was told
-pub nearest-after : (l : List ℕ) (q : ℕ) {r k : Check} → checked r ≡ linesChecked l (finite q) → r ≡ k
-    → checked k then (λ _. gives (nearest (patternValues l) (patternValue q))) ≡ nearestLine l q
+pub nearest-after : (l : List ℕ) (q : ℕ) {r k : Check} → listGiven r ≡ linesChecked l (finite q) → r ≡ k
+    → listGiven k then (λ _. gives (nearest (patternValues l) (patternValue q))) ≡ nearestLine l q
 unfolding nearestLine
-nearest-after l q e f = ap (λ (x : Examination). x then (λ _. gives (nearest (patternValues l) (patternValue q)))) (ap checked (sym f) ∙ e)
+nearest-after l q e f = ap (λ (x : Examination). x then (λ _. gives (nearest (patternValues l) (patternValue q)))) (ap listGiven (sym f) ∙ e)
 
 -- and of a list that passed them
-pub checked-passes : (l : List ℕ) (q : ℕ) → Checked l → finite q ≡ true → nearestLine l q ≡ gives (nearest (patternValues l) (patternValue q))
+pub listGiven-passes : (l : List ℕ) (q : ℕ) → Checked l → finite q ≡ true → nearestLine l q ≡ gives (nearest (patternValues l) (patternValue q))
 unfolding nearestLine linesChecked patternsChecked ascentChecked
-checked-passes l q c f = ap (λ (x : Examination). x then (λ _. gives (nearest (patternValues l) (patternValue q)))) all
+listGiven-passes l q c f = ap (λ (x : Examination). x then (λ _. gives (nearest (patternValues l) (patternValue q)))) all
   where
     all : linesChecked l (finite q) ≡ passed
     all =

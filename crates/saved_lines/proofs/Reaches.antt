@@ -15,7 +15,7 @@ use Rattle.saved_lines.specs.declared.Sought.the-variants.{AtLeast, Reac
 use Rattle.saved_lines.specs.Positions.{range}
 use Rattle.saved_lines.specs.Offsets.{at, distance, isWithin}
 use Rattle.saved_lines.specs.Searches.{passesOf}
-use Rattle.saved_lines.specs.Lines.{Examination, checked, linesChecked, Checked, linesFound, linesWithin}
+use Rattle.saved_lines.specs.Lines.{Examination, listGiven, linesChecked, Checked, linesFound, linesWithin}
 use Rattle.saved_lines.specs.Walks.{Around}
 use Rattle.saved_lines.proofs.DistanceLaws.{distance-is}
 use Rattle.saved_lines.proofs.Searches.{from-first}
@@ -158,15 +158,15 @@ module _ (l : List ℕ) (c : Checked l) (q d : ℕ) {first end : ℕ} (e : first
         record { found = some-found h; walk = record { low = starts h; below = omega arith; above = omega arith; high = ends h; most = end-most } }
 
 -- ---- the answers of lines_within, after a check that was told
-module _ (l : List ℕ) (q d room : ℕ) {r k : Check} (e : checked r ≡ linesChecked l (finite q and finite d)) (f : r ≡ k) where
+module _ (l : List ℕ) (q d room : ℕ) {r k : Check} (e : listGiven r ≡ linesChecked l (finite q and finite d)) (f : r ≡ k) where
   abbrev found : List ℕ
   found = linesFound l q d
 
-  pub within-after : checked k then (λ _. unless (leb (length found) room) (refused 14) (gives (length found))) ≡ linesWithin l q d room
+  pub within-after : listGiven k then (λ _. unless (leb (length found) room) (refused 14) (gives (length found))) ≡ linesWithin l q d room
   unfolding linesWithin
-  within-after = ap (λ (x : Examination). x then (λ _. unless (leb (length found) room) (refused 14) (gives (length found)))) (ap checked (sym f) ∙ e)
+  within-after = ap (λ (x : Examination). x then (λ _. unless (leb (length found) room) (refused 14) (gives (length found)))) (ap listGiven (sym f) ∙ e)
 
-module _ (l : List ℕ) (q d room : ℕ) {r : Check} (e : checked r ≡ linesChecked l (finite q and finite d)) (f : r ≡ check.Passed)
+module _ (l : List ℕ) (q d room : ℕ) {r : Check} (e : listGiven r ≡ linesChecked l (finite q and finite d)) (f : r ≡ check.Passed)
     (first n : ℕ) (g : range first n ≡ linesFound l q d) where
   count-is : n ≡ length (linesFound l q d)
   count-is = sym (range-length first n) ∙ ap length g

@@ -9,7 +9,7 @@ use Rattle.binary32.proofs.PatternValues.{all-finite}
 use Rattle.saved_lines.specs.Offsets.{descends}
 use Rattle.saved_lines.specs.Lines.{passed, patternsChecked, linesChecked, Checked, nearestLine}
 use Rattle.saved_lines.specs.Rows.{rowLooked, rowFound, Queried, queriesChecked, nearestLines}
-use Rattle.saved_lines.proofs.Checking.{checked-passes}
+use Rattle.saved_lines.proofs.Checking.{listGiven-passes}
 use Rattle.saved_lines.proofs.Refusals.{AllFinite, Descent, descent, finite-before, bad-there, bad-first, TurnedAway, checks-end}
 use Rattle.saved_lines.proofs.RowPatterns.{found-at, count-most}
 
@@ -53,7 +53,7 @@ module _ (l qs : List ℕ) (c : Checked l) (d : Queried qs) where
 
   -- the positions are request 2's, one by one
   pub one-by-one : (k : ℕ) → k < length qs → nearestLine l (getD qs k 0) ≡ gives (getD (rowFound (patternValues l) (patternValues qs)) k 0)
-  one-by-one k b = checked-passes l (getD qs k 0) c (all-finite qs (d .finite) k b) ∙ sym (found-is (found-at (patternValues l) qs k b))
+  one-by-one k b = listGiven-passes l (getD qs k 0) c (all-finite qs (d .finite) k b) ∙ sym (found-is (found-at (patternValues l) qs k b))
     where
       found-is : {m n : ℕ} → m ≡ n → gives m ≡ gives n
       found-is e = cc

@@ -8,7 +8,7 @@ use Rattle.binary32.specs.Patterns.{notFinite, patternValues}
 use Rattle.saved_lines.specs.declared.Check.{Check}
 use Rattle.saved_lines.specs.declared.Check.the-variants.{Passed}
 use Rattle.saved_lines.specs.Offsets.{descends}
-use Rattle.saved_lines.specs.Lines.{Examination, passed, checked, patternsChecked, linesChecked}
+use Rattle.saved_lines.specs.Lines.{Examination, passed, listGiven, patternsChecked, linesChecked}
 use Rattle.saved_lines.specs.Rows.{rowLooked, Queried, queriesChecked, nearestLines}
 use Rattle.saved_lines.proofs.Checking.{went-on, not-refused, not-refused-at}
 
@@ -49,17 +49,17 @@ module _ (l qs : List ℕ) (room : ℕ) where
     unfolding nearestLines _and_
     row-many m = sym (unless-failed _ _ (rw (eq-eqb (length qs) room h, lt-leb (length qs) 4096 m, _and_)))
 
-    module _ (m : length qs ≤ 4096) {r k : Check} (e : checked r ≡ linesChecked l true) (f : r ≡ k) where
+    module _ (m : length qs ≤ 4096) {r k : Check} (e : listGiven r ≡ linesChecked l true) (f : r ≡ k) where
       -- after a check of the list that was told
-      pub row-after : checked k then (λ _. queriesChecked qs then λ _. gives (rowLooked (patternValues l) 0 (patternValues qs))) ≡ nearestLines l qs room
+      pub row-after : listGiven k then (λ _. queriesChecked qs then λ _. gives (rowLooked (patternValues l) 0 (patternValues qs))) ≡ nearestLines l qs room
       unfolding nearestLines
       row-after =
-          ap (λ (x : Examination). x then (λ _. queriesChecked qs then λ _. gives (rowLooked (patternValues l) 0 (patternValues qs)))) (ap checked (sym f) ∙ e)
+          ap (λ (x : Examination). x then (λ _. queriesChecked qs then λ _. gives (rowLooked (patternValues l) 0 (patternValues qs)))) (ap listGiven (sym f) ∙ e)
           ∙ sym (unless-passed _ _ (and-made (eq-eqb (length qs) room h) (le-leb (length qs) 4096 m)))
 
     -- and after one of the queries
-    pub row-then : length qs ≤ 4096 → {r s k : Check} → checked r ≡ linesChecked l true → r ≡ Passed → checked s ≡ queriesChecked qs → s ≡ k
-        → checked k then (λ _. gives (rowLooked (patternValues l) 0 (patternValues qs))) ≡ nearestLines l qs room
+    pub row-then : length qs ≤ 4096 → {r s k : Check} → listGiven r ≡ linesChecked l true → r ≡ Passed → listGiven s ≡ queriesChecked qs → s ≡ k
+        → listGiven k then (λ _. gives (rowLooked (patternValues l) 0 (patternValues qs))) ≡ nearestLines l qs room
     row-then m e f g b =
-        ap (λ (x : Examination). x then (λ _. gives (rowLooked (patternValues l) 0 (patternValues qs)))) (ap checked (sym b) ∙ g)
+        ap (λ (x : Examination). x then (λ _. gives (rowLooked (patternValues l) 0 (patternValues qs)))) (ap listGiven (sym b) ∙ g)
         ∙ row-after m e f

@@ -44,8 +44,8 @@ repeats-drop vs n h = neighbours-drop equals (pos 0) vs n h
 tail-is : (l : List ℕ) (n : ℕ) → take (length l - n) (drop n l) ≡ drop n l
 tail-is l n = take-all (length l - n) (drop n l) (omega (arith, length-drop n l))
 
-checked-drop : (l : List ℕ) (n : ℕ) → n < length l → Checked l → Checked (drop n l)
-checked-drop l n h s =
+listGiven-drop : (l : List ℕ) (n : ℕ) → n < length l → Checked l → Checked (drop n l)
+listGiven-drop l n h s =
     record {
       some = omega (arith, length-drop n l);
       most = omega (arith, length-drop n l, s .most);
@@ -54,8 +54,8 @@ checked-drop l n h s =
       strict = ap repeats (map-drop patternValue n l) ∙ repeats-drop (patternValues l) n (s .strict);
     }
 
-pub checked-tail : (l : List ℕ) (n : ℕ) → n < length l → Checked l → Checked (take (length l - n) (drop n l))
-checked-tail l n h s = rw (tail-is l n) (checked-drop l n h s)
+pub listGiven-tail : (l : List ℕ) (n : ℕ) → n < length l → Checked l → Checked (take (length l - n) (drop n l))
+listGiven-tail l n h s = rw (tail-is l n) (listGiven-drop l n h s)
 
 -- ---- the walk: each line before i - 1 is followed by a closer one
 abbrev pub Nearing : (l : List ℕ) (q i : ℕ) → Type 0
@@ -152,7 +152,7 @@ module _ (l : List ℕ) (s : Checked l) (qs : List ℕ) (qd : Queried qs) (p i :
 
   pub step-looked : c ≤ m + 2
   step-looked =
-      let t = checked-tail l p h s in
+      let t = listGiven-tail l p h s in
       omega (arith, e, f, looked-most q (patternValues (take (length l - p) (drop p l))) (offsets-rise _ t) (values-some _ t))
 
   counted-more : (count : ℕ) {all : ℕ} → count + rowLooked vs p (patternValues (drop i qs)) ≡ all → count + c + rowLooked vs (p + m) (patternValues (drop (i + 1) qs)) ≡ all

@@ -30,10 +30,10 @@ Examination = Given (Unit {0})
 abbrev pub passed : Examination
 passed = gives tt
 
-abbrev pub checked : Check → Examination
-checked check.Passed = passed
-checked (check.Refused why) = refused (refusalNumber why)
-checked (check.RefusedAt why index) = refusedAt (refusalNumber why) index
+abbrev pub listGiven : Check → Examination
+listGiven check.Passed = passed
+listGiven (check.Refused why) = refused (refusalNumber why)
+listGiven (check.RefusedAt why index) = refusedAt (refusalNumber why) index
 
 -- ---- the checks
 -- 9 for the first pattern that is not finite, with its index; else what comes after

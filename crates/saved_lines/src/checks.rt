@@ -8,7 +8,7 @@ use format::Refusal;
 ghost use mathlib.Core.Path.{_≡_};
 ghost use Rattle.binary32.specs.Patterns.{patternValues};
 ghost use Rattle.saved_lines.specs.Offsets.{descends, repeats};
-ghost use Rattle.saved_lines.specs.Lines.{checked, linesChecked};
+ghost use Rattle.saved_lines.specs.Lines.{listGiven, linesChecked};
 
 // Is some offset above the next?
 pub fn is_descending(offsets: &[u32]) -> bool
@@ -40,7 +40,7 @@ fn is_repeating(offsets: &[u32]) -> bool
 
 // All checks in their order. `finite`: are the numbers beside the list finite?
 pub fn check_lines(offsets: &[u32], finite: bool) -> Check
-    ensures { λ r. ⌜ checked r ≡ linesChecked (now (offsets .entry)) finite ⌝ }
+    ensures { λ r. ⌜ listGiven r ≡ linesChecked (now (offsets .entry)) finite ⌝ }
 {
     if offsets.len() == 0 {
         return Check::Refused(Refusal::ListLength);

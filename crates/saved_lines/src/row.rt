@@ -12,31 +12,31 @@ ghost use Prim.Native.Nat.{_≤_};
 ghost use lib.ListN.{length};
 ghost use Rattle.binary32.specs.Patterns.{finite, patternValue, patternValues};
 ghost use Rattle.saved_lines.specs.Offsets.{nearest};
-ghost use Rattle.saved_lines.specs.Lines.{Checked, checked, lineGiven};
+ghost use Rattle.saved_lines.specs.Lines.{Checked, listGiven, lineGiven};
 ghost use Rattle.saved_lines.specs.Rows.{looked, rowLooked, rowFound, Queried, queriesChecked, nearestLines, rowWritten};
 
 // How far a walk went, and how many lines it looked at.
-pub struct Steps {
+pub struct Walked {
     pub ahead: usize,
     pub looked: usize,
 }
 
 // From the first line of a list that is handed on to the next while that is nearer: to the nearest of these lines.
-fn walk(rest: &[u32], query: u32) -> Steps
+fn walk(rest: &[u32], query: u32) -> Walked
     requires { ⌜ Checked (now rest) × (finite query ≡ true) ⌝ }
     ensures { λ r. ⌜ (r .ahead ≡ nearest (patternValues (now (rest .entry))) (patternValue query)) × (r .looked ≡ looked (patternValue query) (patternValues (now (rest .entry)))) ⌝ }
 {
     let mut i = 1;
     while i < rest.len() {
         if !is_nearer(rest[i], rest[i - 1], query) {
-            return Steps {
+            return Walked {
                 ahead: i - 1,
                 looked: i + 1,
             };
         }
         i += 1;
     }
-    Steps {
+    Walked {
         ahead: i - 1,
         looked: i,
     }
@@ -64,7 +64,7 @@ fn walk_row(offsets: &[u32], queries: &[u32], out: &mut [u32]) -> usize
 // The checks of the queries: 9 with its index, 16.
 fn check_queries(queries: &[u32]) -> Check
     requires { ⌜ length (now queries) ≤ 4096 ⌝ }
-    ensures { λ r. ⌜ checked r ≡ queriesChecked (now (queries .entry)) ⌝ }
+    ensures { λ r. ⌜ listGiven r ≡ queriesChecked (now (queries .entry)) ⌝ }
 {
     let bad = first_not_finite(queries);
     if bad < queries.len() {

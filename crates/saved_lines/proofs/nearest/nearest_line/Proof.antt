@@ -3,7 +3,7 @@ use Rattle.theory.proofs.Prelude.{ℕ, true, List, _∙_, ap, _≡_, sym, needs
 use Rattle.format.specs.Given.{gives}
 use Rattle.binary32.specs.Patterns.{finite}
 use Rattle.saved_lines.specs.declared.Check.the-variants.{Passed}
-use Rattle.saved_lines.specs.Lines.{checked, linesChecked, Checked}
+use Rattle.saved_lines.specs.Lines.{listGiven, linesChecked, Checked}
 use Rattle.saved_lines.proofs.Checking.{passed-checks, nearest-after}
 use Rattle.saved_lines.proofs.NearestAnswers.{nearest-small}
 use Rattle.saved_lines.proofs.nearest.nearest_line.Statement.{statement}
@@ -20,11 +20,11 @@ module _ (j : tie.After-check-lines) where
   query = start .args .query
 
   -- what the check answered
-  told : checked (j .check-lines .result) ≡ linesChecked list (finite query)
+  told : listGiven (j .check-lines .result) ≡ linesChecked list (finite query)
   told = j .check-lines .ensures ∙ ap (linesChecked list) (j .before .is-finite .ensures)
 
   there : j .check-lines .result ≡ Passed → Checked list × (finite query ≡ true)
-  there e = passed-checks list (finite query) (sym told ∙ ap checked e)
+  there e = passed-checks list (finite query) (sym told ∙ ap listGiven e)
 
 nearest-position-requires : tie.Need-nearest-position-requires
 nearest-position-requires c κs = there (c .before .before) (c .enum-told .given .1)

@@ -5,7 +5,7 @@ use Rattle.theory.proofs.Tests.{and-left}
 use Rattle.binary32.specs.Patterns.{finite, patternValue, patternValues}
 use Rattle.saved_lines.specs.declared.Check.the-variants.{Passed}
 use Rattle.saved_lines.specs.Offsets.{nearestFirst}
-use Rattle.saved_lines.specs.Lines.{checked, linesChecked, Checked}
+use Rattle.saved_lines.specs.Lines.{listGiven, linesChecked, Checked}
 use Rattle.saved_lines.proofs.Checking.{passed-checks}
 use Rattle.saved_lines.proofs.Reaches.{within-after, within-short, within-found}
 use Rattle.saved_lines.proofs.reach.lines_within.Statement.{statement}
@@ -28,11 +28,11 @@ module _ (j : tie.After-check-lines) where
   room = length (start .args .out .now)
 
   -- what the check answered
-  told : checked (j .check-lines .result) ≡ linesChecked list (finite query and finite distance)
+  told : listGiven (j .check-lines .result) ≡ linesChecked list (finite query and finite distance)
   told = j .check-lines .ensures ∙ ap (linesChecked list) (j .before .are-finite .ensures)
 
   there : j .check-lines .result ≡ Passed → Checked list × (finite query and finite distance ≡ true)
-  there e = passed-checks list (finite query and finite distance) (sym told ∙ ap checked e)
+  there e = passed-checks list (finite query and finite distance) (sym told ∙ ap listGiven e)
 
 range-within-requires : tie.Need-range-within-requires
 range-within-requires c κs = there (c .before .before) (c .enum-told .given .1)

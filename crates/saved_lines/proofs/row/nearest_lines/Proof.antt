@@ -2,7 +2,7 @@
 use Rattle.theory.proofs.Prelude.{ℕ, _≤_, true, List, _∙_, ap, _≡_, sym, refl, arith, length, needs}
 use Rattle.format.specs.Given.{gives}
 use Rattle.saved_lines.specs.declared.Check.the-variants.{Passed}
-use Rattle.saved_lines.specs.Lines.{checked, Checked}
+use Rattle.saved_lines.specs.Lines.{listGiven, Checked}
 use Rattle.saved_lines.specs.Rows.{Queried}
 use Rattle.saved_lines.proofs.Checking.{passed-checks}
 use Rattle.saved_lines.proofs.RowChecks.{passed-queries, row-lengths, row-many, row-after, row-then}
@@ -36,10 +36,10 @@ module _ (d : tie.After-check-queries) where
   before = d .before .before .before
 
   list-passed : Checked (list before)
-  list-passed = passed-checks (list before) true (sym (before .check-lines .ensures) ∙ ap checked (d .before .enum-told .given .1)) .0
+  list-passed = passed-checks (list before) true (sym (before .check-lines .ensures) ∙ ap listGiven (d .before .enum-told .given .1)) .0
 
   queries-passed : d .check-queries .result ≡ Passed → Queried (queries before)
-  queries-passed e = passed-queries (queries before) (sym (d .check-queries .ensures) ∙ ap checked e)
+  queries-passed e = passed-queries (queries before) (sym (d .check-queries .ensures) ∙ ap listGiven e)
 
 returns : tie.Need-returns
 returns c =

@@ -3,7 +3,7 @@ use Rattle.theory.proofs.Prelude.{_≤_, _<_, _+_, _*_, _-_, _≡_, sym, refl, 
 use Rattle.binary32.specs.Patterns.{patternValue, patternValues}
 use Rattle.binary32.proofs.PatternValues.{all-finite}
 use Rattle.saved_lines.proofs.RowLaws.{Left}
-use Rattle.saved_lines.proofs.RowPatterns.{Gone, gone-first, gone-more, gone-count, gone-written, checked-tail, step-place, step-looked}
+use Rattle.saved_lines.proofs.RowPatterns.{Gone, gone-first, gone-more, gone-count, gone-written, listGiven-tail, step-place, step-looked}
 use Rattle.saved_lines.proofs.row.walk_row.Statement.{statement}
 use Rattle.saved_lines.proofs.row.walk_row.Tie as tie
 
@@ -23,7 +23,7 @@ walk-requires : tie.Need-walk-requires Inv-loop μ-loop
 walk-requires c κs =
     let j = c .before .before .before in
     let s = j .before .before .before .before in
-    (checked-tail (s .args .offsets .now) (j .loop .at) (j .loop .inv .0) (s .pre .0), all-finite (s .args .queries .now) (s .pre .1 .finite) (j .loop .i) (omega arith))
+    (listGiven-tail (s .args .offsets .now) (j .loop .at) (j .loop .inv .0) (s .pre .0), all-finite (s .args .queries .now) (s .pre .1 .finite) (j .loop .i) (omega arith))
 
 -- what the walk brings
 module _ (w : tie.After-walk Inv-loop μ-loop) where
