@@ -1,30 +1,9 @@
 -- Sum and product commute, the difference is the sum with the second number negated, and x + 0, x × 1 and x ÷ 1 are x.
-use Rattle.theory.proofs.Prelude.{ℕ, _≤_, _<_, _+_, _^_, _-_, suc, zero, true, false, Bool, not, xor, [], _∷_, List, _∙_, ap, _≡_, sym, refl, ap₂, decLe, mul-le-mul-right, pow-zero, mul-comm, arith, ℤ, pos, _+ℤ_, natAbs, _-ℤ_, negℤ, +ℤ-comm}
-use Rattle.theory.specs.Lists.{all}
-use Rattle.theory.specs.Tests.{_and_}
-use Rattle.theory.specs.Signed.{signed}
-use Rattle.theory.proofs.Tests.{and-left}
-use Rattle.theory.proofs.Powers.{pow-add, pow-pos, pow-mono, pow-half}
-use Rattle.theory.proofs.Wide.{wide-pow}
+use Rattle.theory.proofs.Prelude.{ℕ, _≤_, _+_, _^_, _-_, suc, zero, true, false, Bool, not, xor, [], _∷_, List, _∙_, ap, _≡_, sym, refl, pow-zero, mul-comm, arith, ℤ, pos, _+ℤ_, natAbs, _-ℤ_, negℤ, +ℤ-comm}
+use Rattle.arithmetic.proofs.Prelude.{all, _and_, signed, pow-pos, Format, highestPlace, Given, gives, direction, gives-same, gives-not-refused, Number, aboveZero, belowZero, member, magnitude, value, number, members, member-made, checks-end, roundedZ, roundedProduct, summed, subtracted, multiplied, divided, and-left, Admitted, admits, distances, checked, Checks, not-admitted, no-direction, not-member, all-passed, signed-member, negated-value}
 use Rattle.theory.proofs.Integers.{above, neg-above, size-parts, size-signed}
-use Rattle.format.specs.declared.Format.{Format}
-use Rattle.format.specs.Formats.{highestPlace}
-use Rattle.format.specs.Given.{Given, gives}
-use Rattle.format.specs.Directions.{direction}
-use Rattle.format.proofs.Formats.{Admitted, admits, positional, distances}
-use Rattle.format.proofs.GivenLaws.{gives-same, gives-not-refused}
-use Rattle.number.specs.declared.Number.{Number}
-use Rattle.number.specs.Exponents.{aboveZero, belowZero}
-use Rattle.number.specs.Numbers.{member, magnitude, value, greatest, number}
-use Rattle.number.specs.Checks.{checked, Checks, not-admitted, no-direction, not-member, all-passed}
 use Rattle.number.specs.Signs.{negated}
-use Rattle.number.proofs.Membership.{Member, members, member-made}
-use Rattle.number.proofs.Values.{member-greatest, number-value, number-member}
-use Rattle.number.proofs.CheckLaws.{checks-end}
-use Rattle.number.proofs.Negation.{signed-member, negated-value}
 use Rattle.wide.proofs.Signs.{sum-none}
-use Rattle.wide.proofs.Sizes.{greatest-below}
-use Rattle.arithmetic.specs.Operations.{roundedZ, roundedProduct, summed, subtracted, multiplied, divided}
 use Rattle.arithmetic.proofs.Prepared.{no-magnitude, parts-above, parts-below, divisor-positive, divisor-some}
 use Rattle.arithmetic.proofs.Outcome.{rounded-exact, roundedZ-exact}
 use Rattle.arithmetic.proofs.Calls.{Checked, call-passed}
@@ -144,31 +123,9 @@ module _ {f : Format} {d : ℕ} {x u : Number} (c : Checked f d x u) where
         (rounded-exact (c .admits) (direction d) (c .first) _ _ (divisor-positive (c .admits) u some)
         (rw (one-unit (c .admits) o, one-size (c .admits) o) (omega arith)) own)
 
--- 1 is a number of the format exactly where Emin ≤ 0 and -p < Emax
 module _ {f : Format} (ok : Admitted f) where
   -- Emax - Emin, for Emin at most 0
   pub reach : aboveZero (f .emin) ≡ 0 → highestPlace f + belowZero (f .emax) ≡ aboveZero (f .emax) + belowZero (f .emin)
   reach low =
       let d = distances (ok .range) in
       omega (arith, size-parts (f .emax -ℤ f .emin), parts-above (f .emin), parts-below (f .emin), parts-above (f .emax), parts-below (f .emax))
-
-  pub one-there : aboveZero (f .emin) ≡ 0 → belowZero (f .emax) < aboveZero (f .emax) + f .digits
-      → let u : Number = number f false (f .base ^ belowZero (f .emin)) in Member f u × One f u
-  unfolding greatest
-  one-there low high =
-      let k : ℕ = belowZero (f .emin) in
-      let p : ℕ = f .digits - 1 in
-      let w = wide-pow (positional ok) k in
-      let lead : f .base ^ p ≤ f .base ^ f .digits - 1 = omega (arith, pow-half (ok .base-low) {i = p} {j = f .digits} (omega (arith, ok .digits-low)), pow-pos (ok .base-low) p) in
-      let most : f .base ^ k ≤ greatest f =
-      omega (arith, pow-mono (ok .base-low) {i = k} {j = p + highestPlace f} (omega (arith, reach low)), pow-add (f .base) p (highestPlace f), mul-le-mul-right (f .base ^ highestPlace f) lead) in
-      (number-member ok w false most, record { low = low; value = number-value ok w false })
-
-  pub one-only : {u : Number} → Member f u → One f u → belowZero (f .emax) < aboveZero (f .emax) + f .digits
-  unfolding greatest
-  one-only i o = by (decLe (f .digits + highestPlace f) (belowZero (f .emin)))
-    where
-      by : Dec (f .digits + highestPlace f ≤ belowZero (f .emin)) → belowZero (f .emax) < aboveZero (f .emax) + f .digits
-      by (yes l) =
-          absurd (omega (arith, pow-mono (ok .base-low) l, one-size ok o, member-greatest ok i, greatest-below (positional ok) (highestPlace f)))
-      by (no l) = omega (arith, reach (o .low))

@@ -1,25 +1,9 @@
 -- What the answers of the four public calls say: each is the exact result N / D units, rounded. In units of β ^ Emin the sum of
 -- the numbers a and b is a + b, their product a × b × β ^ Emin, and their quotient q has q × b × β ^ Emin = a.
 use Rattle.theory.proofs.Prelude.{ℕ, _≤_, _<_, _^_, _*_, suc, zero, true, false, Bool, xor, [], _∷_, _∙_, ap, _≡_, sym, refl, arith, ℤ, pos, _+ℤ_, natAbs, _-ℤ_, _*ℤ_}
-use Rattle.theory.specs.Lists.{all}
-use Rattle.theory.specs.Tests.{_and_}
-use Rattle.theory.specs.Signed.{signed, roundZ}
-use Rattle.theory.proofs.Tests.{and-left, and-right}
-use Rattle.theory.proofs.Powers.{pow-pos}
-use Rattle.theory.proofs.Integers.{scale-signed}
-use Rattle.format.specs.declared.Format.{Format}
-use Rattle.format.specs.Given.{Given, gives, refused}
-use Rattle.format.specs.Directions.{isDirection, direction}
-use Rattle.format.proofs.Formats.{Admitted, admits, admitted-made}
-use Rattle.format.proofs.GivenLaws.{gives-not-refused}
-use Rattle.number.specs.declared.Number.{Number}
-use Rattle.number.specs.Exponents.{aboveZero, belowZero}
-use Rattle.number.specs.Numbers.{member, magnitude, value, greatest}
-use Rattle.number.specs.Checks.{checked, Checks, not-admitted, no-direction, not-member, all-passed}
-use Rattle.number.proofs.Membership.{Member, members, member-made}
+use Rattle.arithmetic.proofs.Prelude.{all, _and_, signed, roundZ, pow-pos, Format, Given, gives, refused, isDirection, direction, Admitted, admits, admitted-made, gives-not-refused, Number, aboveZero, belowZero, magnitude, value, greatest, Member, members, member-made, roundedProduct, roundedQuotient, summed, subtracted, multiplied, divided, and-left, and-right, scale-signed, checked, Checks, not-admitted, no-direction, not-member, all-passed}
 use Rattle.number.proofs.CheckLaws.{checked-passed, checks-end, pair-made}
 use Rattle.wide.proofs.Signs.{signed-times}
-use Rattle.arithmetic.specs.Operations.{roundedProduct, roundedQuotient, summed, subtracted, multiplied, divided}
 use Rattle.arithmetic.specs.Outcomes.{RoundedNumber, Outcome}
 use Rattle.arithmetic.proofs.Prepared.{product-signed, divisor-positive, divisor-some, divisor-none}
 use Rattle.arithmetic.proofs.Outcome.{outcome-given, outcome-refused, outcome-only, rounded-outcome, roundedZ-outcome}

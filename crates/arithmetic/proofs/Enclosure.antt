@@ -1,16 +1,9 @@
 -- Direction 4 gives at most the exact result of an operation and direction 3 at least it; and sums are monotone.
 use Rattle.theory.proofs.Prelude.{ℕ, _≡_, arith, ℤ, pos, _+ℤ_, _*ℤ_, _≤ℤ_}
-use Rattle.theory.specs.declared.Direction.{Direction}
+use Rattle.arithmetic.proofs.Prelude.{Direction, Format, direction, Given, gives, Admitted, positional, Number, value, summed}
 use Rattle.theory.specs.declared.Direction.the-variants.{Upward, Downward}
-use Rattle.theory.proofs.Integers.{sum-parts, le-parts, parts-le, scale-le-parts, scale-ge-parts, scale-above, scale-below}
+use Rattle.theory.proofs.Integers.{sum-parts, le-parts, parts-le, scale-above, scale-below}
 use Rattle.theory.proofs.Signed.{downward-le, le-upward, roundZ-mono}
-use Rattle.format.specs.declared.Format.{Format}
-use Rattle.format.specs.Directions.{direction}
-use Rattle.format.specs.Given.{Given, gives}
-use Rattle.format.proofs.Formats.{Admitted, positional}
-use Rattle.number.specs.declared.Number.{Number}
-use Rattle.number.specs.Numbers.{value}
-use Rattle.arithmetic.specs.Operations.{summed}
 use Rattle.arithmetic.specs.Outcomes.{RoundedNumber}
 use Rattle.arithmetic.proofs.Calls.{CallRounds, summed-rounds}
 
@@ -35,13 +28,6 @@ module _ {f : Format} {a b : Number} {N : ℤ} {D : ℕ} {r : Given Number} {x :
   rounds-up h e = given-up (h .passed e .admits) (h .given e)
 
 -- ---- the sum
-module _ (f : Format) (a b : Number) {x : Number} where
-  pub summed-down : summed f 4 a b ≡ gives x → value f x ≤ℤ (value f a +ℤ value f b)
-  summed-down e = parts-le (value f x) (value f a +ℤ value f b) (omega (arith, scale-le-parts (value f x) 1 (rounds-down (summed-rounds f 4 a b) e)))
-
-  pub summed-up : summed f 3 a b ≡ gives x → (value f a +ℤ value f b) ≤ℤ value f x
-  summed-up e = parts-le (value f a +ℤ value f b) (value f x) (omega (arith, scale-ge-parts (value f x) 1 (rounds-up (summed-rounds f 3 a b) e)))
-
 pub summed-mono : (f : Format) (d : ℕ) (a b c : Number) {x y : Number} → summed f d a c ≡ gives x → summed f d b c ≡ gives y
     → value f a ≤ℤ value f b → value f x ≤ℤ value f y
 summed-mono f d a b c e h l =

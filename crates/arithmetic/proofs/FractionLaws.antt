@@ -1,32 +1,14 @@
 -- What the answer of the fraction says: n over m is ± N / D units, rounded; which refusal comes where; equal fractions are answered
 -- alike, and as the quotient of two numbers; a whole number over 1 comes out unchanged where it is a number of the format.
 use Rattle.theory.proofs.Prelude.{ℕ, _≤_, _<_, _+_, _^_, _*_, _-_, suc, zero, true, false, Bool, xor, [], _∷_, _∙_, ap, _≡_, sym, refl, pow-zero, mul-pos, mul-lt-mul-of-pos-right, mul-le-mul, zero-mul, eq-of-mul-eq-mul-right, arith, ℤ, pos, natAbs, negsuc, _*ℤ_, le-leb, lt-leb}
-use Rattle.theory.specs.Lists.{all}
-use Rattle.theory.specs.Tests.{_and_, unless}
-use Rattle.theory.specs.Signed.{signed, isNegative}
-use Rattle.theory.specs.declared.Direction.{Direction}
+use Rattle.arithmetic.proofs.Prelude.{all, _and_, unless, signed, isNegative, Direction, pow-add, pow-pos, pow-mono, pow-half, Format, admitted, highestPlace, Given, gives, refused, isDirection, direction, Admitted, admits, admitted-made, positional, Number, aboveZero, belowZero, member, placeOf, magnitude, value, greatest, number, delivered, checked, Checks, checked-passed, checks-end, Member, members, member-made, rounded, roundedFraction, divided, fractioned, wide-pow, never, and-left, and-made, unless-passed, unless-failed}
 use Rattle.theory.specs.Wide.{Wide}
-use Rattle.theory.proofs.Powers.{pow-add, pow-pos, pow-mono, pow-half}
-use Rattle.theory.proofs.Wide.{wide-pow}
 use Rattle.theory.proofs.Round.{round-exact}
 use Rattle.theory.proofs.Monotone.{Same, round-same}
 use Rattle.theory.proofs.Integers.{below, parts-eq, scale-above, scale-below, size-scale, size-signed, own-sign, scale-signed, times-one}
-use Rattle.theory.proofs.Tests.{never, and-left, and-made, unless-passed, unless-failed}
-use Rattle.format.specs.declared.Format.{Format}
-use Rattle.format.specs.Formats.{admitted, highestPlace}
-use Rattle.format.specs.Given.{Given, gives, refused}
-use Rattle.format.specs.Directions.{isDirection, direction}
-use Rattle.format.proofs.Formats.{Admitted, admits, admitted-made, positional}
-use Rattle.number.specs.declared.Number.{Number}
-use Rattle.number.specs.Exponents.{aboveZero, belowZero}
-use Rattle.number.specs.Numbers.{member, placeOf, magnitude, value, greatest, number, delivered}
 use Rattle.number.specs.Checks as checks
-use Rattle.number.specs.Checks.{checked, Checks}
-use Rattle.number.proofs.CheckLaws.{checked-passed, checks-end}
-use Rattle.number.proofs.Membership.{Member, members, member-made}
 use Rattle.number.proofs.Values.{number-magnitude, number-value, number-member}
 use Rattle.arithmetic.specs.Outcomes.{Outcome}
-use Rattle.arithmetic.specs.Operations.{rounded, roundedQuotient, roundedFraction, divided, fractioned}
 use Rattle.arithmetic.proofs.Prepared.{parts-above, parts-below, no-magnitude, no-significand, divisor-positive, divisor-some, denominator-some, denominator-none}
 use Rattle.arithmetic.proofs.Outcome.{rounded-outcome}
 use Rattle.arithmetic.proofs.Fractions.{at-place}

@@ -1,14 +1,7 @@
 -- The fractions of product and quotient in significands and exponents, without the unit: of m × β ^ e and m' × β ^ e' the
 -- product is m × m' × β ^ (e + e'), and the quotient m / m' × β ^ (e - e').
 use Rattle.theory.proofs.Prelude.{ℕ, _+_, _^_, _*_, _∙_, ap, _≡_, sym, arith, ℤ, pos, _+ℤ_, _-ℤ_}
-use Rattle.theory.proofs.Powers.{pow-add}
-use Rattle.theory.proofs.Integers.{above, below, sum-parts, diff-parts, size-parts}
-use Rattle.format.specs.declared.Format.{Format}
-use Rattle.format.proofs.Signed.{apart}
-use Rattle.number.specs.declared.Number.{Number}
-use Rattle.number.specs.Exponents.{aboveZero, belowZero}
-use Rattle.number.specs.Numbers.{placeOf, magnitude}
-use Rattle.number.proofs.Membership.{Member}
+use Rattle.arithmetic.proofs.Prelude.{pow-add, Format, apart, Number, aboveZero, belowZero, placeOf, magnitude, Member, above, below, sum-parts, diff-parts, size-parts}
 use Rattle.arithmetic.proofs.Prepared.{parts-above, parts-below}
 
 pow-three : (β i j k : ℕ) → β ^ i * β ^ j * β ^ k ≡ β ^ (i + j + k)

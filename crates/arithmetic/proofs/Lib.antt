@@ -11,3 +11,6 @@ pub mod Enclosure
 pub mod FractionLaws
 -- what the marks say
 pub mod MarkLaws
+pub mod Prelude
+-- the checks of a public call
+pub mod Entries

@@ -2,27 +2,14 @@
 -- is exact exactly where that result is in the wide format; down it is never high, up never low, toward zero the number is never above
 -- the exact result in magnitude; and the opposite result has the other mark where the direction does not look at the sign.
 use Rattle.theory.proofs.Prelude.{ℕ, _≤_, _*_, _^_, true, false, Bool, xor, [], _∷_, List, _≢_, _∙_, ap, _≡_, sym, refl, subst, ℤ, pos, natAbs, negℤ, _+ℤ_, _-ℤ_, _*ℤ_}
-use Rattle.theory.specs.declared.Direction.{Direction}
+use Rattle.arithmetic.proofs.Prelude.{Direction, all, unless, Format, admitted, isDirection, direction, Given, gives, refused, refusedAt, Admitted, positional, Number, aboveZero, belowZero, member, magnitude, value, checked, Rounded, summed, subtracted, multiplied, divided, fractioned}
 use Rattle.theory.specs.declared.Direction.the-variants.{TowardZero, Upward, Downward}
 use Rattle.theory.specs.declared.Mark.the-variants.{Exact, Low, High}
-use Rattle.theory.specs.Lists.{all}
-use Rattle.theory.specs.Tests.{unless}
 use Rattle.theory.specs.Marks.{mark, otherMark}
 use Rattle.theory.specs.Signed.{signed, WideZ}
 use Rattle.theory.proofs.Marks.{mark-multiplied, mark-exact, mark-turned, Unsigned, wide-exact, downward-not-high, upward-not-low, toward-zero-inward, roundZ-turned}
 use Rattle.theory.proofs.Signed.{roundZ-wide}
-use Rattle.format.specs.declared.Format.{Format}
-use Rattle.format.specs.Formats.{admitted}
-use Rattle.format.specs.Directions.{isDirection, direction}
-use Rattle.format.specs.Given.{Given, gives, refused, refusedAt}
-use Rattle.format.proofs.Formats.{Admitted, positional}
 use Rattle.format.proofs.GivenLaws.{gives-same, gives-not-refused, gives-not-refused-at}
-use Rattle.number.specs.declared.Number.{Number}
-use Rattle.number.specs.Exponents.{aboveZero, belowZero}
-use Rattle.number.specs.Numbers.{member, magnitude, value}
-use Rattle.number.specs.Checks.{checked}
-use Rattle.arithmetic.specs.declared.Rounded.{Rounded}
-use Rattle.arithmetic.specs.Operations.{summed, subtracted, multiplied, divided, fractioned}
 use Rattle.arithmetic.specs.Marked.{withoutMark, marked, sumAnswer, differenceAnswer, productAnswer, quotientAnswer, fractionAnswer}
 use Rattle.arithmetic.specs.Outcomes.{RoundedNumber, MarkedNumber}
 use Rattle.arithmetic.proofs.Prepared.{marked-number, fraction-signed}

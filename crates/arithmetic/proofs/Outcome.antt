@@ -2,27 +2,14 @@
 -- refusal 5 is given exactly where the rounded magnitude is above the greatest number. An exact result that is a number of the
 -- format is given as it is, in every direction.
 use Rattle.theory.proofs.Prelude.{ℕ, _≤_, _<_, _*_, true, false, Bool, ⊎-elim, _∙_, ap, _≡_, sym, refl, pow-zero, lt-of-mul-lt-mul-right, arith, leb, ℤ, natAbs, le-leb, leb-true, leb-false}
-use Rattle.theory.specs.Tests.{unless}
+use Rattle.arithmetic.proofs.Prelude.{unless, Direction, signed, isNegative, roundZ, Format, Given, gives, refused, Admitted, positional, gives-same, Number, member, magnitude, value, greatest, number, delivered, Member, member-made, rounded, roundedZ, unless-passed, wide-pow, size-signed, own-sign}
 use Rattle.theory.specs.Round.{round}
-use Rattle.theory.specs.declared.Direction.{Direction}
 use Rattle.theory.specs.declared.Direction.the-variants.{TowardZero}
 use Rattle.theory.specs.Neighbours.{lowerQ, upperQ}
-use Rattle.theory.specs.Signed.{signed, isNegative, roundZ}
-use Rattle.theory.proofs.Tests.{unless-passed}
-use Rattle.theory.proofs.Wide.{wide-pow}
 use Rattle.theory.proofs.Neighbours.{lowerQ-le, upperQ-least}
 use Rattle.theory.proofs.Round.{round-wide, round-exact, round-cases}
-use Rattle.theory.proofs.Integers.{size-signed, own-sign}
 use Rattle.theory.proofs.Signed.{roundZ-size, roundZ-signed, toward-zero-size}
-use Rattle.format.specs.declared.Format.{Format}
-use Rattle.format.specs.Given.{Given, gives, refused}
-use Rattle.format.proofs.Formats.{Admitted, positional}
-use Rattle.format.proofs.GivenLaws.{gives-same}
-use Rattle.number.specs.declared.Number.{Number}
-use Rattle.number.specs.Numbers.{member, magnitude, value, greatest, number, delivered}
-use Rattle.number.proofs.Membership.{Member, member-made}
 use Rattle.number.proofs.Values.{member-wide, member-greatest, number-same, number-of, own-sign as own-record, number-member, number-value}
-use Rattle.arithmetic.specs.Operations.{rounded, roundedZ}
 use Rattle.arithmetic.specs.Outcomes.{RoundedNumber, Outcome, given, too-large}
 
 module _ {f : Format} {d : Direction} {N : ℤ} {D : ℕ} where

@@ -1,38 +1,19 @@
 -- From a prepared format to the wide format and back: a number of the format is an operand there, and a result that comes back
 -- is the exact value, rounded and delivered.
-use Rattle.theory.proofs.Prelude.{ℕ, _≤_, _<_, _+_, _^_, _*_, suc, zero, true, false, Bool, cond, not, xor, _∙_, ap, _≡_, sym, refl, ap₂, mul-pos, arith, ℤ, pos, _+ℤ_, natAbs, _-ℤ_, negsuc, negℤ, _*ℤ_, +ℤ-comm, leb, ltZ, ne-eqb, eq-eqb}
-use Rattle.theory.specs.declared.Direction.{Direction}
+use Rattle.theory.proofs.Prelude.{w32, SFits, toZ, ofZ, ℕ, _≤_, _<_, _+_, _^_, _*_, suc, zero, true, false, Bool, cond, not, xor, _∙_, ap, _≡_, sym, refl, ap₂, mul-pos, arith, ℤ, pos, _+ℤ_, natAbs, _-ℤ_, negsuc, negℤ, _*ℤ_, +ℤ-comm, leb, ltZ, ne-eqb, eq-eqb}
+use Rattle.arithmetic.proofs.Prelude.{back, Direction, mark, unless, signed, isNegative, roundZ, pow-pos, Format, Prepared, Given, gives, refused, refusedAt, Number, Usable, Operands, aboveZero, belowZero, member, placeOf, magnitude, value, greatest, number, delivered, Member, members, member-made, known, Wide, Rounding, rounded, roundedZ, roundedProduct, roundedQuotient, roundedFraction, Rounded, above, below, size-parts, diff-parts, own-sign, scale-signed, member-canonical, member-highest, highest-most, delivered-same, number-of, number-value, signed-member, negated-value}
 use Rattle.theory.specs.declared.Mark.{Mark}
-use Rattle.theory.specs.Marks.{mark}
-use Rattle.theory.specs.Tests.{unless}
-use Rattle.theory.specs.Signed.{signed, isNegative, roundZ}
 use Rattle.theory.specs.Wide.{Canonical, Wide as WideN}
-use Rattle.theory.proofs.Powers.{pow-pos}
-use Rattle.theory.proofs.Integers.{above, below, size-parts, diff-parts, own-sign, scale-signed}
-use Rattle.format.specs.declared.Format.{Format}
-use Rattle.format.specs.declared.Prepared.{Prepared}
-use Rattle.format.specs.Given.{Given, gives, refused, refusedAt}
 use Rattle.format.specs.Formats.{Scaled, scaleOf}
 use Rattle.format.proofs.Signed.{Upto, apart, lt-true, lt-false}
 use Rattle.format.proofs.Formats.{Admitted, positional, scaled}
-use Rattle.number.specs.declared.Number.{Number}
-use Rattle.number.specs.Checks.{Usable, Operands}
-use Rattle.number.specs.Exponents.{aboveZero, belowZero}
-use Rattle.number.specs.Numbers.{member, placeOf, magnitude, value, greatest, number, delivered}
 use Rattle.number.specs.Signs.{withSign}
-use Rattle.number.proofs.Membership.{Member, members, member-made, known}
-use Rattle.number.proofs.Values.{member-canonical, member-highest, highest-most, delivered-same, number-of, number-value}
-use Rattle.number.proofs.Negation.{signed-member, negated-value}
-use Rattle.rounding.specs.declared.Wide.{Wide}
-use Rattle.rounding.specs.declared.Rounding.{Rounding}
 use Rattle.rounding.specs.Cut.{Rounds}
 use Rattle.wide.specs.Operand.{Bounded, sizeOf, valueOf}
 use Rattle.wide.specs.Sum.{RoundsZ}
 use Rattle.wide.proofs.Results.{sum-value}
 use Rattle.wide.proofs.Signs.{signed-times}
 use Rattle.arithmetic.specs.Operands.{wideOf}
-use Rattle.arithmetic.specs.Operations.{rounded, roundedZ, roundedProduct, roundedQuotient, roundedFraction}
-use Rattle.arithmetic.specs.declared.Rounded.{Rounded}
 use Rattle.arithmetic.specs.Marked.{withoutMark, withMark, marked, markedSum, markedProduct, markedQuotient, markedFraction}
 
 -- ---- the parts of Emin
@@ -49,12 +30,27 @@ unfolding magnitude
 no-magnitude f x h = rw h (omega arith)
 
 module _ {f : Format} (a : Admitted f) where
-  pub above-most : aboveZero (f .emin) < 2 ^ 28
+  above-most : aboveZero (f .emin) < 2 ^ 28
   above-most = let r = a .range in omega (arith, parts-above (f .emin), apart (f .emin))
 
   pub below-most : belowZero (f .emin) < 2 ^ 28
   below-most = let r = a .range in omega (arith, parts-below (f .emin), apart (f .emin))
 
+-- as the code has them, in the bounds of the wide format
+pub record Parts (f : Format) (up down : ℕ) : Type 0 where
+  pub up-is : up ≡ aboveZero (f .emin)
+  pub down-is : down ≡ belowZero (f .emin)
+  pub up-small : up < 2 ^ 28
+  pub down-small : down < 2 ^ 28
+
+pub parts : {f : Format} {up down : ℕ} → Admitted f → SFits w32 (f .emin) → up ≡ aboveZero (toZ w32 (ofZ w32 (f .emin)))
+    → down ≡ belowZero (toZ w32 (ofZ w32 (f .emin))) → Parts f up down
+parts {f} {up} {down} a h k l =
+    let e : up ≡ aboveZero (f .emin) = k ∙ rw (back h) in
+    let g : down ≡ belowZero (f .emin) = l ∙ rw (back h) in
+    record { up-is = e; down-is = g; up-small = rw e (above-most a); down-small = rw g (below-most a) }
+
+module _ {f : Format} (a : Admitted f) where
   -- ---- a divisor, zero or not
   some-magnitude : (b : Number) → 1 ≤ b .significand → 1 ≤ magnitude f b
   unfolding magnitude
@@ -185,24 +181,23 @@ module _ {q : Prepared} (u : Usable q) where
     add-delivers h = sum-delivers _ (rw (ex, ey, scale-is) at h)
 
     module _ {up down : ℕ} {r : Rounding} where
-      pub product-delivers : up ≡ aboveZero (q .format .emin) → down ≡ belowZero (q .format .emin)
+      pub product-delivers : Parts (q .format) up down
           → Rounds (q .scale .base) (q .scale .digits) d (xor (x .negative) (y .negative)) (sizeOf (q .scale .base) x * sizeOf (q .scale .base) y * q .scale .base ^ up) (q .scale .base ^ down) r
           → Delivers (q .format) r (markedProduct (q .format) d a b)
       unfolding roundedProduct magnitude
-      product-delivers eu ed h = rw (← product-signed (q .format) a b) (rounds-delivers (rw (ex, ey, eu, ed, scale-is) at h))
+      product-delivers e h = rw (← product-signed (q .format) a b) (rounds-delivers (rw (ex, ey, e .up-is, e .down-is, scale-is) at h))
 
-      pub quotient-delivers : 1 ≤ b .significand → up ≡ belowZero (q .format .emin) → down ≡ aboveZero (q .format .emin)
+      pub quotient-delivers : 1 ≤ b .significand → Parts (q .format) down up
           → Rounds (q .scale .base) (q .scale .digits) d (xor (x .negative) (y .negative)) (sizeOf (q .scale .base) x * q .scale .base ^ up) (sizeOf (q .scale .base) y * q .scale .base ^ down) r
           → Delivers (q .format) r (markedQuotient (q .format) d a b)
       unfolding magnitude
-      quotient-delivers some eu ed h = rw (divisor-some (known u .admits) d a b some) (rounds-delivers (rw (ex, ey, eu, ed, scale-is) at h))
+      quotient-delivers some e h = rw (divisor-some (known u .admits) d a b some) (rounds-delivers (rw (ex, ey, e .down-is, e .up-is, scale-is) at h))
 
-  pub fraction-delivers : (d : Direction) (n : ℤ) {m up down k : ℕ} {negative : Bool} {r : Rounding} → 1 ≤ m
-      → up ≡ belowZero (q .format .emin) → down ≡ aboveZero (q .format .emin) → negative ≡ isNegative n → k ≡ natAbs n
+  pub fraction-delivers : (d : Direction) (n : ℤ) {m up down k : ℕ} {negative : Bool} {r : Rounding} → 1 ≤ m → Parts (q .format) down up → negative ≡ isNegative n → k ≡ natAbs n
       → Rounds (q .scale .base) (q .scale .digits) d negative (k * q .scale .base ^ up) (m * q .scale .base ^ down) r
       → Delivers (q .format) r (markedFraction (q .format) d n m)
-  fraction-delivers d n some eu ed es ek h =
-      rw (denominator-some (q .format) d n some, ← fraction-signed (q .format) n) (rounds-delivers (rw (es, ek, eu, ed, scale-is) at h))
+  fraction-delivers d n some e es ek h =
+      rw (denominator-some (q .format) d n some, ← fraction-signed (q .format) n) (rounds-delivers (rw (es, ek, e .down-is, e .up-is, scale-is) at h))
 
 -- ---- two numbers in the order of their exponents
 pub record Aligned (q : Prepared) (a b high low : Number) : Type 0 where

@@ -1,15 +1,6 @@
 -- A number that an operation gives is in the format.
 use Rattle.theory.proofs.Prelude.{ℕ, suc, zero, true, _∙_, _≡_, sym, refl, arith}
-use Rattle.theory.specs.declared.Direction.{Direction}
-use Rattle.theory.proofs.Powers.{pow-pos}
-use Rattle.format.specs.declared.Format.{Format}
-use Rattle.format.specs.Given.{Given, gives, refused}
-use Rattle.format.proofs.Formats.{Admitted}
-use Rattle.format.proofs.GivenLaws.{gives-not-refused}
-use Rattle.number.specs.declared.Number.{Number}
-use Rattle.number.specs.Exponents.{belowZero}
-use Rattle.number.specs.Numbers.{member}
-use Rattle.arithmetic.specs.Operations.{roundedSum, roundedDifference, roundedProduct, roundedQuotient}
+use Rattle.arithmetic.proofs.Prelude.{Direction, pow-pos, Format, gives, refused, Admitted, gives-not-refused, Number, belowZero, member, roundedSum, roundedDifference, roundedProduct, roundedQuotient}
 use Rattle.arithmetic.proofs.Prepared.{divisor-positive, divisor-some, divisor-none}
 use Rattle.arithmetic.proofs.Outcome.{outcome-given, rounded-outcome, roundedZ-outcome}
 

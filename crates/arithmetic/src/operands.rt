@@ -2,10 +2,10 @@
 use crate::Rounded;
 use crate::RoundedAnswer;
 use format::Prepared;
-use format::admission::distance;
 use number::Number;
 use number::NumberAnswer;
 use number::delivery::deliver;
+use number::exponents::place_of;
 use rounding::Rounding;
 use rounding::Wide;
 ghost use mathlib.Core.Path.{_≡_};
@@ -22,7 +22,7 @@ pub fn wide_of(prepared: Prepared, x: Number) -> Wide
     requires { ⌜ Operand prepared x ⌝ }
     ensures { λ r. ⌜ r ≡ wideOf (prepared .format) x ⌝ }
 {
-    let place = distance(prepared.format.emin, x.exponent);
+    let place = place_of(prepared, x);
     Wide {
         negative: x.negative,
         significand: x.significand,

@@ -1,11 +1,7 @@
 -- The sign of a number that C hands over: 0 and 1 make the number that they say, and any other one that is in no format.
 use Rattle.theory.proofs.Prelude.{ℕ, _≤_, _^_, _-_, true, false, Bool, cond, _≡_, refl, ap, arith, ℤ, lt-leb}
-use Rattle.format.specs.declared.Format.{Format}
-use Rattle.format.specs.Formats.{admitted}
-use Rattle.format.proofs.Formats.{admits}
+use Rattle.number.proofs.Prelude.{Format, admitted, admits, member, members}
 use Rattle.number.specs.declared.Number.{Number}
-use Rattle.number.specs.Numbers.{member}
-use Rattle.number.proofs.Membership.{members}
 use Rattle.c_api.specs.declared.answers.CNumber.{CNumber}
 use Rattle.c_api.specs.Answers.{numberIn, numberFor}
 

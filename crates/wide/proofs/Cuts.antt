@@ -1,19 +1,7 @@
 -- From the digits that were taken to the cut of the value.
-use Rattle.theory.proofs.Prelude.{ℕ, _≤_, _<_, _+_, _^_, _*_, _-_, suc, zero, _%_, _/_, inl, inr, _⊎_, _≢_, _∙_, ap, _≡_, sym, refl, mul-le-mul-right, mul-le-mul-left, pow-zero, mul-pos, mul-lt-mul-of-pos-right, pow-succ', lt-of-mul-lt-mul-right, div-add-mod', eq-of-mul-eq-mul-right, le-of-mul-le-mul-right, mod-lt, add-suc, pow-le-pow-left, arith}
-use native.Mathlib.Nat.{div-le-self}
-use Rattle.theory.specs.Place.{Positional, place}
-use Rattle.theory.proofs.Powers.{pow-add, pow-pos, pow-mono, pow-half}
-use Rattle.theory.proofs.Place.{place-fits, place-le, above-power}
-use Rattle.format.specs.declared.Scale.{Scale}
-use Rattle.format.specs.Formats.{Scaled}
-use Rattle.rounding.specs.declared.Cut.{Cut}
-use Rattle.theory.specs.declared.Location.{Location}
-use Rattle.theory.specs.declared.Location.the-variants.{Exact, Below}
-use Rattle.rounding.specs.Cut.{cutOf}
-use Rattle.rounding.specs.Location.{located}
-use Rattle.rounding.proofs.Locations.{located-exact, located-below}
-use Rattle.rounding.proofs.Places.{cut-is}
-use Rattle.rounding.proofs.Scales.{positional, power-at, least-bound}
+use Rattle.theory.proofs.Prelude.{ℕ, _≤_, _<_, _+_, _^_, _*_, _-_, suc, zero, _%_, _/_, inl, inr, _⊎_, _≢_, _∙_, ap, _≡_, sym, refl, mul-le-mul-right, mul-le-mul-left, pow-zero, mul-pos, mul-lt-mul-of-pos-right, pow-succ', lt-of-mul-lt-mul-right, div-add-mod', eq-of-mul-eq-mul-right, le-of-mul-le-mul-right, mod-lt, add-suc, arith}
+use Rattle.rounding.proofs.Prelude.{Positional, place, pow-add, pow-pos, pow-half, Scale, Scaled, Location, Exact, Below, cutOf, located, located-exact, located-below, cut-is, power-at, least-bound}
+use Rattle.theory.proofs.Place.{place-fits, above-power}
 use Rattle.wide.specs.declared.long_division.Division.{Division}
 use Rattle.wide.proofs.Digits.{taken-exact}
 use Rattle.wide.specs.Division.{Start, Quotient, Taken, Ended, all-digits, lowest-place, no-rest}
@@ -111,16 +99,3 @@ pub ended-least : {s : Scale} {v : Division} → Scaled s → Ended s v → v .r
 ended-least {s} {v} h (all-digits l) r = inr (omega (arith, least-bound h, h .bound-power, mul-le-mul-left (s .base) l))
 ended-least h (lowest-place z) r = inl z
 ended-least h (no-rest z) r = absurd (r z)
-
--- the place of a fraction of 32 bits is small
-module _ {s : Scale} (h : Scaled s) (n d up down : ℕ) {c : Cut}
-    (e : c ≡ cutOf (s .base) (s .digits) (n * s .base ^ up) (d * s .base ^ down)) where
-  pub fraction-place : n < 2 ^ 32 → c .place ≤ 32 + up
-  unfolding cutOf
-  fraction-place l =
-      let β : ℕ = s .base in
-      let N : ℕ = n * β ^ up in
-      let few : n < β ^ 32 = omega (arith, pow-le-pow-left (h .base-least) 32) in
-      let below : N < β ^ (32 + up) = rw (pow-add β 32 up) (mul-lt-mul-of-pos-right few (pow-pos (h .base-least) up)) in
-      let more : β ^ (32 + up) ≤ β ^ (s .digits + (32 + up)) = pow-mono (h .base-least) (omega arith) in
-      rw e (place-le (positional h) (omega (arith, below, more, div-le-self N (d * β ^ down))))

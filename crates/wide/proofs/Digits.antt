@@ -1,8 +1,7 @@
 -- The digits of a long division: the divisor above n, the digits by the definition and in groups, and how many there are.
 use Rattle.theory.proofs.Prelude.{ℕ, _≤_, _<_, _+_, _^_, _*_, _-_, suc, zero, _%_, _/_, _∙_, ap, _≡_, sym, mul-le-mul-right, mul-le-mul-left, pow-zero, mul-lt-mul-of-pos-right, pow-succ', lt-of-not-le, div-add-mod', div-lt-iff-lt-mul, mod-lt, pow-le-pow-left, arith}
 use lib.Arith.{digits-div, digits-mod}
-use Rattle.theory.proofs.Powers.{pow-add, pow-mono}
-use Rattle.rounding.proofs.Scales.{power-at, power-next}
+use Rattle.rounding.proofs.Prelude.{pow-add, pow-mono, power-at, power-next}
 use Rattle.wide.specs.Division.{remains, digit, digits, Taken}
 
 -- ---- the divisor above n

@@ -9,4 +9,3 @@ pub mod Results
 -- the long division of fractions
 pub mod Digits
 pub mod Cuts
-pub mod Examples

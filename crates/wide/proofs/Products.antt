@@ -1,8 +1,6 @@
 -- The product's exact value and its bounds.
 use Rattle.theory.proofs.Prelude.{ℕ, _≤_, _<_, _+_, _^_, _*_, suc, _≡_, mul-le-mul, arith}
-use Rattle.theory.proofs.Powers.{pow-add}
-use Rattle.format.specs.declared.Scale.{Scale}
-use Rattle.format.specs.Formats.{Scaled}
+use Rattle.rounding.proofs.Prelude.{pow-add, Scale, Scaled}
 use Rattle.rounding.specs.declared.Wide.{Wide}
 use Rattle.wide.specs.Operand.{Bounded, sizeOf}
 

@@ -2,18 +2,9 @@
 use Rattle.theory.proofs.Prelude.{ℕ, _≤_, _<_, _+_, _^_, _*_, _-_, suc, zero, _%_, _/_, inl, inr, _⊎_, _∙_, ap, _≡_, sym, refl, ap₂, decLe, mul-le-mul-right, mul-le-mul-left, pow-zero, mul-pos, mul-lt-mul-of-pos-right, lt-of-mul-lt-mul-right, div-add-mod', mod-lt, le-of-mul-le-mul-left, arith}
 use native.Mathlib.Nat.{mul-div-mul-right, mul-right-comm}
 use lib.Arith.{digits-mod}
-use Rattle.theory.specs.Place.{Positional, step}
-use Rattle.theory.proofs.Powers.{pow-add, pow-pos, pow-mono, pow-half}
+use Rattle.rounding.proofs.Prelude.{Positional, step, pow-add, pow-pos, pow-mono, pow-half, Scale, Scaled, Below, cutOf, dropped, Digits, located, located-scaled, located-below, positional, power-at, count-le, least-bound, power-one}
 use Rattle.theory.proofs.Place.{step-pos}
-use Rattle.format.specs.declared.Scale.{Scale}
-use Rattle.format.specs.Formats.{Scaled}
-use Rattle.theory.specs.declared.Location.the-variants.{Below}
-use Rattle.rounding.specs.Cut.{cutOf, dropped}
-use Rattle.rounding.specs.Digits.{Digits}
-use Rattle.rounding.specs.Location.{located}
-use Rattle.rounding.proofs.Locations.{located-scaled, located-below}
 use Rattle.rounding.proofs.Places.{Placed, cut-is, extend-small}
-use Rattle.rounding.proofs.Scales.{positional, power-at, count-le, least-bound, power-one}
 use Rattle.wide.specs.Quotient.{Leading, Shifted}
 
 -- a factor that numerator and denominator share changes nothing

@@ -1,19 +1,14 @@
 -- What a caller may know of a result: its value is the rounding of the exact value, and its place is bounded.
-use Rattle.theory.proofs.Prelude.{ℕ, _≤_, _<_, _+_, _^_, _*_, _-_, Bool, _∙_, ap, _≡_, sym, refl, ap₂, arith, ℤ, _+ℤ_, natAbs}
-use Rattle.theory.specs.Place.{Positional}
-use Rattle.theory.specs.Wide.{Canonical}
+use Rattle.theory.proofs.Prelude.{ℕ, _≤_, _+_, _^_, _*_, _-_, Bool, _∙_, ap, _≡_, sym, refl, ap₂, arith, ℤ, _+ℤ_}
+use Rattle.rounding.proofs.Prelude.{Positional, Canonical, Direction, pow-pos, place-le, Rounds}
 use Rattle.theory.specs.Round.{round}
-use Rattle.theory.specs.declared.Direction.{Direction}
 use Rattle.theory.specs.Signed.{signed, roundZ}
-use Rattle.theory.proofs.Powers.{pow-pos}
-use Rattle.theory.proofs.Place.{place-le}
 use Rattle.theory.proofs.Canonical.{canonical-place}
 use Rattle.theory.proofs.Round.{round-exact}
 use Rattle.theory.proofs.Monotone.{round-mono}
 use Rattle.theory.proofs.Signed.{roundZ-signed}
 use Rattle.rounding.specs.declared.Wide.{Wide}
 use Rattle.rounding.specs.declared.Rounding.{Rounding}
-use Rattle.rounding.specs.Cut.{Rounds}
 use Rattle.wide.specs.Operand.{valueOf}
 use Rattle.wide.specs.Sum.{RoundsZ}
 use Rattle.wide.proofs.Sizes.{greatest-below, sum-size}

@@ -1,5 +1,5 @@
 -- Sums and products of signed magnitudes.
-use Rattle.theory.proofs.Prelude.{ℕ, _≤_, _+_, _*_, _-_, suc, zero, true, false, Bool, xor, Bool·beq, _∙_, ap, _≡_, sym, refl, decLe, mul-le-mul-right, zero-mul, mul-sub, arith, ℤ, pos, _+ℤ_, natAbs, negℤ, _*ℤ_, +ℤ-comm}
+use Rattle.theory.proofs.Prelude.{ℕ, _≤_, _+_, _*_, _-_, suc, zero, true, false, Bool, xor, Bool·beq, _∙_, ap, _≡_, sym, refl, decLe, mul-le-mul-right, zero-mul, mul-sub, arith, pos, _+ℤ_, natAbs, negℤ, _*ℤ_, +ℤ-comm}
 use native.Mathlib.Nat.{mul-zero}
 use lib.IntN.{+ℤ-idr}
 use Rattle.theory.specs.Signed.{signed}

@@ -1,9 +1,6 @@
 -- Bounds on the exact values: each is at most the greatest number at some place.
-use Rattle.theory.proofs.Prelude.{ℕ, _≤_, _<_, _+_, _^_, _*_, _-_, ap, _≡_, mul-le-mul-left, mul-lt-mul-of-pos-right, le-trans, mul-le-mul, arith, _+ℤ_, natAbs}
-use Rattle.theory.specs.Place.{Positional}
-use Rattle.theory.specs.Wide.{Canonical}
-use Rattle.theory.proofs.Powers.{pow-add, pow-pos, pow-mono}
-use Rattle.rounding.proofs.Scales.{power-next}
+use Rattle.theory.proofs.Prelude.{pow-le-pow-left, mul-le-mul-right, ℕ, _≤_, _<_, _+_, _^_, _*_, _-_, ap, _≡_, mul-le-mul-left, mul-lt-mul-of-pos-right, le-trans, mul-le-mul, arith, _+ℤ_, natAbs}
+use Rattle.rounding.proofs.Prelude.{Positional, Canonical, pow-add, pow-pos, pow-mono, power-next, power-one}
 use Rattle.rounding.specs.declared.Wide.{Wide}
 use Rattle.wide.specs.Operand.{sizeOf, valueOf}
 use Rattle.wide.proofs.Signs.{sum-most}
@@ -22,6 +19,13 @@ module _ {β p : ℕ} (ok : Positional β p) where
       let digits : x .significand ≤ β ^ p - 1 = omega (arith, h .small) in
       let power : β ^ (x .place + i) ≤ β ^ k = pow-mono (ok .base) l in
       omega (arith, ap (λ (v : ℕ). x .significand * v) (pow-add β (x .place) i), mul-le-mul digits power)
+
+  -- a number of 32 bits times a power
+  pub fraction-size : (n i : ℕ) → n < 2 ^ 32 → n * β ^ i ≤ (β ^ p - 1) * β ^ (32 + i)
+  fraction-size n i l =
+      let few : n ≤ β ^ 32 = omega (arith, pow-le-pow-left (ok .base) 32) in
+      let digit : 1 ≤ β ^ p - 1 = omega (arith, pow-mono (ok .base) (ok .digits), power-one β, ok .base) in
+      omega (arith, pow-add β 32 i, mul-le-mul-right (β ^ i) few, mul-le-mul-right (β ^ (32 + i)) digit)
 
   module _ (x y : Wide) (hx : Canonical β p (x .significand) (x .place)) (hy : Canonical β p (y .significand) (y .place)) where
     pub sum-size : (k : ℕ) → x .place ≤ k → y .place ≤ k → natAbs (valueOf β x +ℤ valueOf β y) ≤ (β ^ p - 1) * β ^ (k + 1)

@@ -1,28 +1,15 @@
 -- The cut of a sum, where the numbers overlap and where they are far apart.
 use Rattle.theory.proofs.Prelude.{ℕ, _≤_, _<_, _+_, _^_, _*_, _-_, suc, true, false, Bool, cond, not, Bool·beq, ⊎-elim, inl, inr, _≢_, _∙_, ap, _≡_, sym, refl, ap₂, subst, mul-le-mul-right, mul-le-mul-left, pow-zero, mul-pos, mul-lt-mul-of-pos-right, le-antisymm, add-zero, le-of-mul-le-mul-left, arith, ℤ, _+ℤ_, natAbs, boolByte}
 use native.Mathlib.Nat.{sub-zero}
-use Rattle.theory.specs.Place.{Positional}
-use Rattle.theory.specs.Wide.{Canonical}
-use Rattle.theory.specs.declared.Direction.{Direction}
-use Rattle.theory.specs.Signed.{signed}
-use Rattle.theory.proofs.Powers.{pow-add, pow-pos, pow-pred, pow-mono, pow-half}
+use Rattle.rounding.proofs.Prelude.{Positional, Canonical, Direction, signed, pow-add, pow-pos, pow-pred, pow-mono, pow-half, Scale, Scaled, Location, Exact, Below, Above, cutOf, Rounds, located, located-exact, located-below, located-above, located-scaled, cut-is, positional, power-at, least-bound}
 use Rattle.theory.proofs.Integers.{size-signed}
-use Rattle.format.specs.declared.Scale.{Scale}
-use Rattle.format.specs.Formats.{Scaled}
 use Rattle.rounding.specs.declared.Cut.{Cut}
-use Rattle.theory.specs.declared.Location.{Location}
-use Rattle.theory.specs.declared.Location.the-variants.{Exact, Below, Above}
-use Rattle.rounding.specs.Cut.{cutOf, Rounds}
-use Rattle.rounding.specs.Location.{located}
-use Rattle.rounding.proofs.Locations.{located-exact, located-below, located-above, located-scaled}
-use Rattle.rounding.proofs.Places.{cut-is}
-use Rattle.rounding.proofs.Scales.{positional, power-at, least-bound}
 use Rattle.rounding.specs.declared.Wide.{Wide}
 use Rattle.rounding.specs.declared.Rounding.{Rounding}
 use Rattle.wide.specs.Operand.{Bounded, sizeOf, valueOf}
 use Rattle.wide.specs.Sum.{Adds, SumCut, RoundsZ, belowPower}
 use Rattle.wide.proofs.Sizes.{sum-size}
-use Rattle.wide.proofs.Finishes.{steps-fit, place-fit}
+use Rattle.wide.proofs.Finishes.{finishes}
 use Rattle.wide.proofs.Signs.{sum-agree, sum-differ, sum-none, sub-times}
 
 -- a sign and a magnitude of z make its cut
@@ -174,7 +161,8 @@ module _ {s : Scale} (h : Scaled s) {x y : Wide} (hx : Bounded s x) (hy : Bounde
   pub sum-finishes : Scaled s × (c .steps < s .bound) × (c .place ≤ 2 ^ 30)
   sum-finishes =
       let n : ℕ = natAbs (valueOf (s .base) x +ℤ valueOf (s .base) y) in
-      (h, steps-fit h n 1 (omega arith) (k .size), omega (arith, place-fit h n 1 (omega arith) (k .size) (2 ^ 28 + 1) (sum-size (positional h) x y (hx .canonical) (hy .canonical) (2 ^ 28) (omega (arith, hx .place-most)) (omega (arith, hy .place-most)))))
+      finishes h n 1 (omega arith) (k .size) (2 ^ 28 + 1) (omega arith)
+      (sum-size (positional h) x y (hx .canonical) (hy .canonical) (2 ^ 28) (omega (arith, hx .place-most)) (omega (arith, hy .place-most)))
 
 pub sum-rounds : {s : Scale} {d : Direction} (z : ℤ) {negative : Bool} {c : Cut} {r : Rounding} → SumCut s z negative c
     → ((N D : ℕ) → 1 ≤ D → c ≡ cutOf (s .base) (s .digits) N D → Rounds (s .base) (s .digits) d negative N D r) → RoundsZ (s .base) (s .digits) d z r

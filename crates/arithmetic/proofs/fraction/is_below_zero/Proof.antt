@@ -9,8 +9,5 @@ below-zero : (z : ℤ) → ltZ z (pos 0) ≡ isNegative z
 below-zero (pos n) = make-ge (pos n) (pos 0) (omega arith)
 below-zero (negsuc n) = make-lt (negsuc n) (pos 0) (omega arith)
 
-returns : tie.Need-returns
-returns c = rw (back (c .fits .n)) (below-zero (c .args .n))
-
 pub is-below-zero-spec : {M : Type 1} → statement M
-is-below-zero-spec = tie.close (tie.spec returns)
+is-below-zero-spec = tie.close (tie.spec (λ c. rw (back (c .fits .n)) (below-zero (c .args .n))))

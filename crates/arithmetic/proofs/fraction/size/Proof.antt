@@ -43,12 +43,6 @@ read c =
     let f = c .before .fits .n in
     rw (back f, back (next-fits (n c) (taken c) f), back (turned-fits (n c) (taken c) f))
 
-add-result : tie.Need-add-result
-add-result c = let f = c .before .fits .n in rw (back f) (next-fits (n c) (taken c) f)
-
-sub-result : tie.Need-sub-result
-sub-result c = let f = c .before .fits .n in rw (back f, back (next-fits (n c) (taken c) f)) (turned-fits (n c) (taken c) f)
-
 cast-result : tie.Need-cast-result
 cast-result c =
     rw (read c)
@@ -72,10 +66,10 @@ cast-result-2 c =
     let h = lt-left z (pos 0) f (sfits-lit tt) (c .if1 .left) in
     rw (back f) (not-negative z (omega (arith, apart z)), fits-natAbs tt f)
 
-returns-2 : tie.Need-returns-2
-returns-2 c = rw (back (c .before .fits .n))
-
 pub size-spec : {M : Type 1} → statement M
 size-spec =
     tie.close
-    (tie.spec add-result sub-result cast-result add-result-2 cast-result-2 returns returns-2)
+    (tie.spec
+    (λ c. let f = c .before .fits .n in rw (back f) (next-fits (n c) (taken c) f))
+    (λ c. let f = c .before .fits .n in rw (back f, back (next-fits (n c) (taken c) f)) (turned-fits (n c) (taken c) f)) cast-result
+    add-result-2 cast-result-2 returns (λ c. rw (back (c .before .fits .n))))

@@ -5,11 +5,10 @@ use Rattle.arithmetic.specs.Marked.{withMark}
 use Rattle.arithmetic.proofs.operands.deliver_wide.Statement.{statement}
 use Rattle.arithmetic.proofs.operands.deliver_wide.Tie as tie
 
-returns : tie.Need-returns
-returns c = ap (withMark _) (ap numberGiven (sym (c .before .number .given .1)) ∙ c .before .before .before .deliver .ensures)
-
-returns-2 : tie.Need-returns-2
-returns-2 c = ap (withMark _) (ap numberGiven (sym (c .before .why .given .1)) ∙ c .before .before .before .deliver .ensures)
-
 pub deliver-wide-spec : {M : Type 1} → statement M
-deliver-wide-spec = tie.close (tie.spec (λ c κs. search needs) (λ c. search needs) (λ c. search needs) returns returns-2)
+deliver-wide-spec =
+    tie.close
+    (tie.spec
+    (λ c κs. search needs) (λ c. search needs) (λ c. search needs)
+    (λ c. ap (withMark _) (ap numberGiven (sym (c .before .number .given .1)) ∙ c .before .before .before .deliver .ensures))
+    (λ c. ap (withMark _) (ap numberGiven (sym (c .before .why .given .1)) ∙ c .before .before .before .deliver .ensures)))

@@ -1,8 +1,6 @@
 -- `arithmetic::sum::marked_difference` meets its contract: the sum with the second number negated.
 use Rattle.theory.proofs.Prelude.{_∙_, ap, ℤ, _+ℤ_, needs}
-use Rattle.number.specs.Numbers.{value}
-use Rattle.number.proofs.Membership.{known}
-use Rattle.arithmetic.specs.Operations.{roundedZ}
+use Rattle.arithmetic.proofs.Prelude.{value, known, roundedZ}
 use Rattle.arithmetic.specs.Marked.{marked}
 use Rattle.arithmetic.proofs.Prepared.{turned-member, turned-value}
 use Rattle.arithmetic.proofs.sum.marked_difference.Statement.{statement}

@@ -1,16 +1,7 @@
 -- `arithmetic::sum::marked_sum` meets its contract: the numbers in the order of their exponents, the sum in the wide format, delivered.
 use Rattle.theory.proofs.Prelude.{ℕ, _+_, Bool, cond, _∙_, ap, _≡_, refl, subst, arith, ℤ, natAbs, _-ℤ_, ltZ, w32, SFits, needs}
-use Rattle.format.specs.declared.Prepared.{Prepared}
-use Rattle.format.proofs.Signed.{back}
-use Rattle.format.proofs.Formats.{exponents-made}
-use Rattle.rounding.specs.declared.Wide.{Wide}
-use Rattle.number.specs.declared.Number.{Number}
-use Rattle.number.specs.Numbers.{placeOf}
-use Rattle.number.specs.Checks.{Operands}
-use Rattle.number.proofs.Membership.{Member, members, known}
-use Rattle.number.proofs.Values.{member-highest, highest-most}
+use Rattle.arithmetic.proofs.Prelude.{Prepared, back, exponents-made, Wide, Number, placeOf, Operands, Member, members, known, member-highest, highest-most, roundedZ}
 use Rattle.arithmetic.specs.Operands.{wideOf}
-use Rattle.arithmetic.specs.Operations.{roundedZ}
 use Rattle.arithmetic.specs.Marked.{marked, markedSum}
 use Rattle.arithmetic.proofs.Prepared.{Delivers, Aligned, aligned, place-apart, scale-scaled, bounded, add-delivers}
 use Rattle.arithmetic.proofs.sum.marked_sum.Statement.{statement}
@@ -57,9 +48,6 @@ distance-requires c κs =
     rw (back (low-fits s), back (high-fits (s .before)))
     (exponents-made (record { emin-low = omega (arith, r .emin-low); emin-emax = m; emax-high = omega (arith, r .emax-high) }))
 
-wide-of-requires : tie.Need-wide-of-requires
-wide-of-requires c κs = let o = ordered (c .before .before .before) .operands in record { usable = o .usable; number = o .second }
-
 abbrev selected : tie.After-wide-of → tie.After-select2
 selected c = c .before .before .before .before
 
@@ -102,14 +90,11 @@ result c =
     subst (λ (z : ℤ). Delivers (a .prepared .format) (c .aligned-sum .result) (marked (a .prepared .format) z 1 (roundedZ (a .prepared .format) (a .direction) z))) (ordered s .sum)
     (add-delivers (ordered s .operands .usable) (a .direction) (s .before .select .result) (s .select2 .result) (high-is v) (v .wide-of .ensures) (c .aligned-sum .ensures))
 
-deliver-wide-requires : tie.Need-deliver-wide-requires
-deliver-wide-requires c κs = (ordered (selected (c .before .before .before)) .operands .usable, result c .canonical)
-
-returns : tie.Need-returns
-returns c = c .deliver-wide .ensures ∙ result (c .before) .is
-
 pub marked-sum-spec : {M : Type 1} → statement M
 marked-sum-spec =
     tie.close
     (tie.spec
-    (λ c κs. search needs) (λ c κs. search needs) distance-requires wide-of-requires add-t12 aligned-sum-requires deliver-wide-requires returns)
+    (λ c κs. search needs) (λ c κs. search needs) distance-requires
+    (λ c κs. let o = ordered (c .before .before .before) .operands in record { usable = o .usable; number = o .second }) add-t12
+    aligned-sum-requires (λ c κs. (ordered (selected (c .before .before .before)) .operands .usable, result c .canonical))
+    (λ c. c .deliver-wide .ensures ∙ result (c .before) .is))

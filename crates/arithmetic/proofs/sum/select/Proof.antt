@@ -1,8 +1,6 @@
 -- `arithmetic::sum::select` meets its contract: each field is that of the number that the test selects.
-use Rattle.theory.proofs.Prelude.{ℕ, true, false, Bool, cond, ⊎-elim, _∙_, _≡_, sym, refl, ℤ, w32, SFits, needs}
-use Rattle.theory.proofs.Tests.{never}
-use Rattle.format.proofs.Signed.{back}
-use Rattle.number.specs.declared.Number.{Number}
+use Rattle.theory.proofs.Prelude.{ℕ, true, false, Bool, cond, ⊎-elim, _∙_, _≡_, sym, ℤ, w32, SFits, needs}
+use Rattle.arithmetic.proofs.Prelude.{back, Number, never}
 use Rattle.arithmetic.proofs.sum.select.Statement.{statement}
 use Rattle.arithmetic.proofs.sum.select.Tie as tie
 

@@ -11,17 +11,10 @@ use Rattle.c_api.proofs.answers.check_out.Tie as tie
 abbrev out : CheckAnswer → CheckOut
 out answer = checkOut (checkGiven answer)
 
-returns : tie.Need-returns
-returns c = sym (ap out (c .enum-told .given .1))
-
-returns-2 : tie.Need-returns-2
-returns-2 c = sym (ap out (c .enum-told2 .given .1))
-
-returns-3 : tie.Need-returns-3
-returns-3 c = ap (λ (n : ℕ). checkOut (refused n)) (c .refusal-number .ensures) ∙ sym (ap out (c .before .before .answer .given .1))
-
 pub check-out-spec : {M : Type 1} → statement M
 check-out-spec =
     tie.close
     (tie.spec
-    (λ c. search needs) (λ c. search needs) (λ c. search needs) (λ c κs. search needs) returns returns-2 returns-3)
+    (λ c. search needs) (λ c. search needs) (λ c. search needs) (λ c κs. search needs) (λ c. sym (ap out (c .enum-told .given .1)))
+    (λ c. sym (ap out (c .enum-told2 .given .1)))
+    (λ c. ap (λ (n : ℕ). checkOut (refused n)) (c .refusal-number .ensures) ∙ sym (ap out (c .before .before .answer .given .1))))

@@ -13,8 +13,5 @@ signed c = ⊎-elim (λ w. w .1 ∙ ap sign (sym (w .0 .taken))) (λ w. w .1 ∙
 e-fits : (c : tie.Start) → SFits w32 (c .args .x .exponent)
 e-fits c = search needs
 
-returns : tie.Need-returns
-returns c = rw (back (e-fits (c .before .before))) (rw (signed (c .before)) refl)
-
 pub number-for-spec : {M : Type 1} → statement M
-number-for-spec = tie.close (tie.spec returns)
+number-for-spec = tie.close (tie.spec (λ c. rw (back (e-fits (c .before .before))) (rw (signed (c .before)) refl)))

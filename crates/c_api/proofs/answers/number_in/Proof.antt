@@ -16,8 +16,5 @@ chosen c =
 e-fits : (c : tie.Start) → SFits w32 (c .args .x .exponent)
 e-fits c = search needs
 
-returns : tie.Need-returns
-returns c = rw (back (e-fits (c .before .before .before .before))) (rw (chosen (c .before)) refl)
-
 pub number-in-spec : {M : Type 1} → statement M
-number-in-spec = tie.close (tie.spec returns)
+number-in-spec = tie.close (tie.spec (λ c. rw (back (e-fits (c .before .before .before .before))) (rw (chosen (c .before)) refl)))

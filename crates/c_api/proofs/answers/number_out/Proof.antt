@@ -1,8 +1,7 @@
 -- `c_api::answers::number_out` meets its contract.
 use Rattle.theory.proofs.Prelude.{ℕ, _∙_, ap, sym, needs}
-use Rattle.format.specs.Given.{refused}
+use Rattle.number.proofs.Prelude.{refused, numberGiven}
 use Rattle.number.specs.declared.NumberAnswer.{NumberAnswer}
-use Rattle.number.specs.Answers.{numberGiven}
 use Rattle.c_api.specs.Answers.{numberOut}
 use Rattle.c_api.specs.declared.answers.NumberOut.{NumberOut}
 use Rattle.c_api.specs.declared.answers.CNumber.{CNumber}
@@ -15,11 +14,9 @@ out answer = numberOut (numberGiven answer)
 returns : tie.Need-returns
 returns c = ap (λ (x : CNumber). record { refusal = 0; number = x }) (c .number-for .ensures) ∙ sym (ap out (c .before .before .answer .given .1))
 
-returns-2 : tie.Need-returns-2
-returns-2 c = ap (λ (n : ℕ). numberOut (refused n)) (c .refusal-number .ensures) ∙ sym (ap out (c .before .before .answer2 .given .1))
-
 pub number-out-spec : {M : Type 1} → statement M
 number-out-spec =
     tie.close
     (tie.spec
-    (λ c. search needs) (λ c κs. search needs) (λ c. search needs) (λ c κs. search needs) returns returns-2)
+    (λ c. search needs) (λ c κs. search needs) (λ c. search needs) (λ c κs. search needs) returns
+    (λ c. ap (λ (n : ℕ). numberOut (refused n)) (c .refusal-number .ensures) ∙ sym (ap out (c .before .before .answer2 .given .1))))

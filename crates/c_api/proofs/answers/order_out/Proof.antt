@@ -1,11 +1,10 @@
 -- `c_api::answers::order_out` meets its contract.
 use Rattle.theory.proofs.Prelude.{ℕ, _∙_, ap, sym, ℤ, w32, SFits, needs}
-use Rattle.format.specs.Given.{refused}
+use Rattle.number.proofs.Prelude.{refused, back}
 use Rattle.number.specs.declared.OrderAnswer.{OrderAnswer}
 use Rattle.number.specs.Answers.{orderGiven}
 use Rattle.c_api.specs.Answers.{orderOut}
 use Rattle.c_api.specs.declared.answers.OrderOut.{OrderOut}
-use Rattle.format.proofs.Signed.{back}
 use Rattle.c_api.proofs.answers.order_out.Statement.{statement}
 use Rattle.c_api.proofs.answers.order_out.Tie as tie
 
@@ -18,11 +17,9 @@ fits c = search needs
 returns : tie.Need-returns
 returns c = ap (λ (z : ℤ). record { refusal = 0; order = z }) (back (fits c) ∙ c .order-number .ensures) ∙ sym (ap out (c .before .before .answer .given .1))
 
-returns-2 : tie.Need-returns-2
-returns-2 c = ap (λ (n : ℕ). orderOut (refused n)) (c .refusal-number .ensures) ∙ sym (ap out (c .before .before .answer2 .given .1))
-
 pub order-out-spec : {M : Type 1} → statement M
 order-out-spec =
     tie.close
     (tie.spec
-    (λ c. search needs) (λ c κs. search needs) (λ c. search needs) (λ c κs. search needs) returns returns-2)
+    (λ c. search needs) (λ c κs. search needs) (λ c. search needs) (λ c κs. search needs) returns
+    (λ c. ap (λ (n : ℕ). orderOut (refused n)) (c .refusal-number .ensures) ∙ sym (ap out (c .before .before .answer2 .given .1))))

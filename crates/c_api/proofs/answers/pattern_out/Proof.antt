@@ -10,9 +10,6 @@ use Rattle.c_api.proofs.answers.pattern_out.Tie as tie
 abbrev out : PatternAnswer → ℕ
 out answer = patternOut (patternGiven answer)
 
-returns : tie.Need-returns
-returns c = sym (ap out (c .before .pattern .given .1))
-
 returns-2 : tie.Need-returns-2
 returns-2 c = ap (λ (n : ℕ). patternOut (refused n)) (c .refusal-number .ensures) ∙ sym (ap out (c .before .before .pattern2 .given .1))
 
@@ -20,4 +17,5 @@ pub pattern-out-spec : {M : Type 1} → statement M
 pattern-out-spec =
     tie.close
     (tie.spec
-    (λ c. search needs) (λ c. search needs) (λ c. search needs) (λ c κs. search needs) (λ c. search needs) (λ c. search needs) returns returns-2)
+    (λ c. search needs) (λ c. search needs) (λ c. search needs) (λ c κs. search needs) (λ c. search needs) (λ c. search needs)
+    (λ c. sym (ap out (c .before .pattern .given .1))) returns-2)

@@ -11,14 +11,10 @@ use Rattle.c_api.proofs.answers.published_out.Tie as tie
 abbrev out : FormatAnswer → PublishedOut
 out answer = publishedOut (formatGiven answer)
 
-returns : tie.Need-returns
-returns c = sym (ap out (c .before .answer .given .1))
-
 returns-2 : tie.Need-returns-2
 returns-2 c = ap (λ (n : ℕ). publishedOut (refused n)) (c .refusal-number .ensures) ∙ sym (ap out (c .before .before .answer2 .given .1))
 
 pub published-out-spec : {M : Type 1} → statement M
 published-out-spec =
     tie.close
-    (tie.spec
-    (λ c. search needs) (λ c. search needs) (λ c κs. search needs) returns returns-2)
+    (tie.spec (λ c. search needs) (λ c. search needs) (λ c κs. search needs) (λ c. sym (ap out (c .before .answer .given .1))) returns-2)

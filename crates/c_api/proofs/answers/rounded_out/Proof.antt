@@ -17,11 +17,9 @@ returns c =
     ap₂ (λ (n : ℕ) (x : CNumber). record { refusal = 0; mark = n; number = x }) (c .mark-number .ensures) (c .before .number-for .ensures)
     ∙ sym (ap out (c .before .before .before .before .answer .given .1))
 
-returns-2 : tie.Need-returns-2
-returns-2 c = ap (λ (n : ℕ). roundedOut (refused n)) (c .refusal-number .ensures) ∙ sym (ap out (c .before .before .answer2 .given .1))
-
 pub rounded-out-spec : {M : Type 1} → statement M
 rounded-out-spec =
     tie.close
     (tie.spec
-    (λ c. search needs) (λ c κs. search needs) (λ c κs. search needs) (λ c. search needs) (λ c κs. search needs) returns returns-2)
+    (λ c. search needs) (λ c κs. search needs) (λ c κs. search needs) (λ c. search needs) (λ c κs. search needs) returns
+    (λ c. ap (λ (n : ℕ). roundedOut (refused n)) (c .refusal-number .ensures) ∙ sym (ap out (c .before .before .answer2 .given .1))))

@@ -14,17 +14,11 @@ out answer = slicesOut (slicesGiven answer)
 abbrev at : (index n : ℕ) → SlicesOut
 at index n = slicesOut (refusedAt n index)
 
-returns : tie.Need-returns
-returns c = sym (ap out (c .before .answer .given .1))
-
-returns-2 : tie.Need-returns-2
-returns-2 c = ap (λ (n : ℕ). slicesOut (refused n)) (c .refusal-number .ensures) ∙ sym (ap out (c .before .before .answer2 .given .1))
-
-returns-3 : tie.Need-returns-3
-returns-3 c = ap (at _) (c .refusal-number2 .ensures) ∙ sym (ap out (c .before .before .answer3 .given .1))
-
 pub slices-out-spec : {M : Type 1} → statement M
 slices-out-spec =
     tie.close
     (tie.spec
-    (λ c. search needs) (λ c. search needs) (λ c κs. search needs) (λ c. search needs) (λ c κs. search needs) returns returns-2 returns-3)
+    (λ c. search needs) (λ c. search needs) (λ c κs. search needs) (λ c. search needs) (λ c κs. search needs)
+    (λ c. sym (ap out (c .before .answer .given .1)))
+    (λ c. ap (λ (n : ℕ). slicesOut (refused n)) (c .refusal-number .ensures) ∙ sym (ap out (c .before .before .answer2 .given .1)))
+    (λ c. ap (at _) (c .refusal-number2 .ensures) ∙ sym (ap out (c .before .before .answer3 .given .1))))

@@ -14,21 +14,11 @@ out answer = stretchOut (calmerGiven answer)
 abbrev at : (index n : ℕ) → StretchOut
 at index n = stretchOut (refusedAt n index)
 
-returns : tie.Need-returns
-returns c = sym (ap out (c .enum-told .given .1))
-
-returns-2 : tie.Need-returns-2
-returns-2 c = sym (ap out (c .enum-told2 .given .1))
-
-returns-3 : tie.Need-returns-3
-returns-3 c = ap (λ (n : ℕ). stretchOut (refused n)) (c .refusal-number .ensures) ∙ sym (ap out (c .before .before .answer .given .1))
-
-returns-4 : tie.Need-returns-4
-returns-4 c = ap (at _) (c .refusal-number2 .ensures) ∙ sym (ap out (c .before .before .answer2 .given .1))
-
 pub stretch-out-spec : {M : Type 1} → statement M
 stretch-out-spec =
     tie.close
     (tie.spec
     (λ c. search needs) (λ c. search needs) (λ c. search needs) (λ c κs. search needs) (λ c. search needs) (λ c κs. search needs)
-    returns returns-2 returns-3 returns-4)
+    (λ c. sym (ap out (c .enum-told .given .1))) (λ c. sym (ap out (c .enum-told2 .given .1)))
+    (λ c. ap (λ (n : ℕ). stretchOut (refused n)) (c .refusal-number .ensures) ∙ sym (ap out (c .before .before .answer .given .1)))
+    (λ c. ap (at _) (c .refusal-number2 .ensures) ∙ sym (ap out (c .before .before .answer2 .given .1))))

@@ -23,12 +23,9 @@ returns c =
     let s = c .before .before .before .before .before .before .before in
     same (c .before .before .number-for .ensures) (c .before .number-for2 .ensures) (c .number-for3 .ensures) ∙ sym (ap out (s .answer .given .1))
 
-returns-2 : tie.Need-returns-2
-returns-2 c = ap (λ (n : ℕ). tripleOut (refused n)) (c .refusal-number .ensures) ∙ sym (ap out (c .before .before .answer2 .given .1))
-
 pub triple-out-spec : {M : Type 1} → statement M
 triple-out-spec =
     tie.close
     (tie.spec
     (λ c. search needs) (λ c κs. search needs) (λ c κs. search needs) (λ c κs. search needs) (λ c. search needs) (λ c κs. search needs)
-    returns returns-2)
+    returns (λ c. ap (λ (n : ℕ). tripleOut (refused n)) (c .refusal-number .ensures) ∙ sym (ap out (c .before .before .answer2 .given .1))))

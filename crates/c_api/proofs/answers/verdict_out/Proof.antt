@@ -9,14 +9,9 @@ use Rattle.c_api.proofs.answers.verdict_out.Tie as tie
 abbrev out : Verdict → ℕ
 out answer = refusalOut (verdictGiven answer)
 
-returns : tie.Need-returns
-returns c = sym (ap out (c .enum-told .given .1))
-
-returns-2 : tie.Need-returns-2
-returns-2 c = c .refusal-number .ensures ∙ sym (ap out (c .before .before .verdict .given .1))
-
 pub verdict-out-spec : {M : Type 1} → statement M
 verdict-out-spec =
     tie.close
     (tie.spec
-    (λ c. search needs) (λ c. search needs) (λ c κs. search needs) returns returns-2)
+    (λ c. search needs) (λ c. search needs) (λ c κs. search needs) (λ c. sym (ap out (c .enum-told .given .1)))
+    (λ c. c .refusal-number .ensures ∙ sym (ap out (c .before .before .verdict .given .1))))

@@ -4,8 +4,7 @@ use Rattle.c_api.specs.Answers.{numberOut}
 use Rattle.c_api.proofs.patterns.zurkeb_read_pattern.Statement.{statement}
 use Rattle.c_api.proofs.patterns.zurkeb_read_pattern.Tie as tie
 
-returns : tie.Need-returns
-returns c = c .number-out .ensures ∙ ap numberOut (c .before .read-pattern .ensures)
-
 pub zurkeb-read-pattern-spec : {M : Type 1} → statement M
-zurkeb-read-pattern-spec = tie.close (tie.spec (λ c κs. search needs) (λ c κs. search needs) returns)
+zurkeb-read-pattern-spec =
+    tie.close
+    (tie.spec (λ c κs. search needs) (λ c κs. search needs) (λ c. c .number-out .ensures ∙ ap numberOut (c .before .read-pattern .ensures)))

@@ -3,8 +3,5 @@ use Rattle.theory.proofs.Prelude.{ℕ, not, ap, eqb, needs}
 use Rattle.rounding.proofs.choice.is_inexact.Statement.{statement}
 use Rattle.rounding.proofs.choice.is_inexact.Tie as tie
 
-returns : tie.Need-returns
-returns c = ap (λ (n : ℕ). not (eqb n 0)) (c .rank .ensures)
-
 pub is-inexact-spec : {M : Type 1} → statement M
-is-inexact-spec = tie.close (tie.spec (λ c κs. search needs) returns)
+is-inexact-spec = tie.close (tie.spec (λ c κs. search needs) (λ c. ap (λ (n : ℕ). not (eqb n 0)) (c .rank .ensures)))

@@ -1,7 +1,6 @@
 -- `rounding::cutting::cut` meets its contract: at a place above 0 all digits are kept.
 use Rattle.theory.proofs.Prelude.{ℕ, _≤_, _+_, _^_, _*_, _-_, _∙_, ap, sym, arith, needs}
-use Rattle.rounding.specs.Cut.{cutOf, dropped}
-use Rattle.rounding.proofs.Scales.{positional, digits-most, count-most}
+use Rattle.rounding.proofs.Prelude.{cutOf, dropped, positional, digits-most, count-most}
 use Rattle.rounding.proofs.Places.{extend-small, divisor-fits, cut-extend, cut-drop, cut-zero}
 use Rattle.rounding.proofs.cutting.cut.Statement.{statement}
 use Rattle.rounding.proofs.cutting.cut.Tie as tie
@@ -16,27 +15,12 @@ returns c =
 count : (c : tie.After-digit-count) → c .digit-count .result ≤ 2 * c .before .before .args .scale .digits
 count c = count-most (c .before .before .pre .0) (c .digit-count .ensures .above) (c .before .before .pre .1)
 
-add-high : tie.Need-add-high
-add-high c = let s = c .before .before in omega (arith, s .pre, count c, digits-most (s .pre .0))
-
-add-low : tie.Need-add-low
-add-low c = let s = c .before .before in omega (arith, s .pre, digits-most (s .pre .0))
-
-cut-small-requires : tie.Need-cut-small-requires
-cut-small-requires c κs = let d = c .before in (d .before .before .pre .0, d .digit-count .ensures, count d, omega arith)
-
 extend-requires : tie.Need-extend-requires
 extend-requires c κs =
     let d = c .before .before in
     let h = d .before .before .pre .0 in
     let a = d .before .before .args in
     (h, omega (arith, extend-small (positional h) (d .digit-count .ensures) (a .scale .digits - d .digit-count .result) (omega arith)), omega arith)
-
-power-requires : tie.Need-power-requires
-power-requires c κs =
-    let d = c .before .before in
-    let p = d .before .before .pre in
-    (p .0, omega (arith, count d))
 
 divide-requires : tie.Need-divide-requires
 divide-requires c κs =
@@ -66,5 +50,9 @@ pub cut-spec : {M : Type 1} → statement M
 cut-spec =
     tie.close
     (tie.spec
-    returns (λ c κs. search needs) add-high add-low cut-small-requires (λ c. search needs) (λ c. search needs) (λ c. search needs) extend-requires
-    power-requires divide-requires returns-3 returns-4)
+    returns (λ c κs. search needs) (λ c. let s = c .before .before in omega (arith, s .pre, count c, digits-most (s .pre .0)))
+    (λ c. let s = c .before .before in omega (arith, s .pre, digits-most (s .pre .0)))
+    (λ c κs. let d = c .before in (d .before .before .pre .0, d .digit-count .ensures, count d, omega arith)) (λ c. search needs)
+    (λ c. search needs) (λ c. search needs) extend-requires
+    (λ c κs. let d = c .before .before in let p = d .before .before .pre in (p .0, omega (arith, count d))) divide-requires returns-3
+    returns-4)

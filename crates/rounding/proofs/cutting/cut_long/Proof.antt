@@ -1,23 +1,14 @@
 -- `rounding::cutting::cut_long` meets its contract: the divisor has the digits beyond the format's.
 use Rattle.theory.proofs.Prelude.{ℕ, _+_, _-_, ⊎-elim, _∙_, ap, sym, mul-le-mul, arith, needs}
-use Rattle.rounding.specs.Cut.{dropped}
-use Rattle.rounding.proofs.Scales.{positional, digits-most, count-most, unit-most}
+use Rattle.rounding.proofs.Prelude.{dropped, positional, digits-most, count-most, unit-most}
 use Rattle.rounding.proofs.Places.{Beyond, beyond-at, beyond-unit, beyond-next, divisor-fits, cut-drop}
 use Rattle.rounding.proofs.cutting.cut_long.Statement.{statement}
 use Rattle.rounding.proofs.cutting.cut_long.Tie as tie
-
-mul-if1 : tie.Need-mul-if1
-mul-if1 c =
-    let p = c .before .pre in
-    omega (arith, mul-le-mul (unit-most (p .0) (p .1)) (p .0 .bound-most), p .0 .bound-most)
 
 mul-divisor : tie.Need-mul-divisor
 mul-divisor c =
     let p = c .before .before .before .pre in
     omega (arith, mul-le-mul (unit-most (p .0) (p .1)) (p .0 .base-most), p .0 .bound-most)
-
-add-beyond : tie.Need-add-beyond
-add-beyond c = let p = c .before .before .before .pre in omega (arith, p .1 .most, digits-most (p .0))
 
 abbrev start : tie.Joined1 → tie.Start
 start c = c .before .before
@@ -29,9 +20,6 @@ found c =
     (λ w. beyond-at (w .2) (w .3) (beyond-next (p .0) (p .1) (w .0 .taken) (p .3)))
     (λ w. beyond-at (w .1) (w .2) (beyond-unit (p .0) (p .1) (p .2) (omega (arith, w .0 .left))))
     (c .if1 .came)
-
-add-high : tie.Need-add-high
-add-high c = let j = c .before in let p = start j .pre in omega (arith, found j .most, digits-most (p .0), p .5)
 
 divide-requires : tie.Need-divide-requires
 divide-requires c κs =
@@ -49,9 +37,6 @@ returns c =
     ∙ ap (λ (m : ℕ). dropped (a .n) m place) (found j .power)
     ∙ sym (cut-drop (positional (s .pre .0)) (found j .digits) (a .up) (a .down) (j .if1 .beyond) place (omega arith) (omega arith))
 
-add-cut-small : tie.Need-add-cut-small
-add-cut-small c = let j = c .before .before .before in omega (arith, found j .most, digits-most (start j .pre .0))
-
 cut-small-requires : tie.Need-cut-small-requires
 cut-small-requires c κs =
     let j = c .before .before .before in
@@ -62,5 +47,9 @@ pub cut-long-spec : {M : Type 1} → statement M
 cut-long-spec =
     tie.close
     (tie.spec
-    (λ c. search needs) mul-if1 (λ c. search needs) mul-divisor add-beyond add-high (λ c. search needs) divide-requires returns add-cut-small
+    (λ c. search needs)
+    (λ c. let p = c .before .pre in omega (arith, mul-le-mul (unit-most (p .0) (p .1)) (p .0 .bound-most), p .0 .bound-most))
+    (λ c. search needs) mul-divisor (λ c. let p = c .before .before .before .pre in omega (arith, p .1 .most, digits-most (p .0)))
+    (λ c. let j = c .before in let p = start j .pre in omega (arith, found j .most, digits-most (p .0), p .5)) (λ c. search needs)
+    divide-requires returns (λ c. let j = c .before .before .before in omega (arith, found j .most, digits-most (start j .pre .0)))
     cut-small-requires (λ c. search needs))

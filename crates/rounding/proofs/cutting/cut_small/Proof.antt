@@ -1,7 +1,6 @@
 -- `rounding::cutting::cut_small` meets its contract: the place is 0, and the shift says which way to go.
 use Rattle.theory.proofs.Prelude.{ℕ, _-_, _∙_, ap, sym, arith, needs}
-use Rattle.rounding.specs.Cut.{dropped}
-use Rattle.rounding.proofs.Scales.{positional}
+use Rattle.rounding.proofs.Prelude.{dropped, positional}
 use Rattle.rounding.proofs.Places.{extend-small, divisor-fits, cut-extend, cut-drop, cut-under}
 use Rattle.rounding.proofs.cutting.cut_small.Statement.{statement}
 use Rattle.rounding.proofs.cutting.cut_small.Tie as tie

@@ -10,15 +10,9 @@ start c = c .before .before .before
 beyond : (c : tie.After-power-within2) → start c .args .scale .bound * c .power-within2 .result ≡ start c .args .scale .base ^ start c .args .k
 beyond c = power-beyond (start c .pre .0) (omega arith) (c .power-within2 .ensures)
 
-mul-result : tie.Need-mul-result
-mul-result c = omega (arith, beyond c, power-most (start c .pre .0) (start c .pre .1))
-
-returns-2 : tie.Need-returns-2
-returns-2 c = beyond c
-
 pub power-spec : {M : Type 1} → statement M
 power-spec =
     tie.close
     (tie.spec
-    (λ c κs. search needs) (λ c. search needs) (λ c. search needs) (λ c. search needs) (λ c. search needs) (λ c κs. search needs) (λ c. search needs)
-    mul-result returns-2)
+    (λ c κs. search needs) (λ c. search needs) (λ c. search needs) (λ c. search needs) (λ c. search needs) (λ c κs. search needs)
+    (λ c. search needs) (λ c. omega (arith, beyond c, power-most (start c .pre .0) (start c .pre .1))) (λ c. beyond c))

@@ -10,9 +10,6 @@ Inv-loop base n d factor numerator divisor₀ place₀ divisor place = (divisor 
 abbrev μ-loop : tie.MeasureT-loop
 μ-loop base n d factor numerator divisor₀ place₀ divisor place = 2 ^ 32 * base - divisor
 
-loop-holds : tie.Need-loop-holds Inv-loop μ-loop
-loop-holds c = (align-first (c .args .base) (c .args .d), omega arith, omega arith)
-
 abbrev divisor : tie.In-loop Inv-loop μ-loop → ℕ
 divisor c = c .before .loop .divisor
 
@@ -26,31 +23,21 @@ doubled c = omega (arith, mul-le-mul-left (divisor c) (c .before .before .pre .0
 bounded : (c : tie.In-loop Inv-loop μ-loop) → divisor c * base c < 2 ^ 32 * base c
 bounded c = mul-lt-mul-of-pos-right (omega arith) (omega arith)
 
-mul-divisor : tie.Need-mul-divisor Inv-loop μ-loop
-mul-divisor c = omega (arith, bounded c)
-
 few : (c : tie.At-loop Inv-loop μ-loop) → c .loop .place < 40
 few c =
     let s = c .before in
     let i = c .loop .inv in
     align-few (s .args .base) (s .args .d) (c .loop .place) (s .pre .0) (s .pre .2) (i .0) (omega arith)
 
-add-place : tie.Need-add-place Inv-loop μ-loop
-add-place c = omega (arith, few (c .before))
-
-loop-less : tie.Need-loop-less Inv-loop μ-loop
-loop-less c = omega (arith, doubled c, bounded c)
-
 loop-again : tie.Need-loop-again Inv-loop μ-loop
 loop-again c =
     let s = c .before .before in
     (align-next (base c) (s .args .d) (c .before .loop .place) (c .before .loop .inv .0), omega (arith, doubled c), bounded c)
 
-returns : tie.Need-returns Inv-loop μ-loop
-returns c = let i = c .before .loop .inv in record { power = i .0; above = omega arith; most = i .2; few = few (c .before) }
-
 pub align-spec : {M : Type 1} → statement M
 align-spec =
     tie.close
     (tie.spec
-    Inv-loop μ-loop loop-holds mul-divisor add-place loop-less loop-again returns)
+    Inv-loop μ-loop (λ c. (align-first (c .args .base) (c .args .d), omega arith, omega arith)) (λ c. omega (arith, bounded c))
+    (λ c. omega (arith, few (c .before))) (λ c. omega (arith, doubled c, bounded c)) loop-again
+    (λ c. let i = c .before .loop .inv in record { power = i .0; above = omega arith; most = i .2; few = few (c .before) }))

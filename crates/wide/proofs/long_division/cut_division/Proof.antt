@@ -1,9 +1,7 @@
 -- `wide::long_division::cut_division` meets its contract: at the first two ends the quotient is the steps of the cut; where nothing remains
 -- the value is a whole number, and its cut is known.
 use Rattle.theory.proofs.Prelude.{_≤_, _^_, _*_, _∙_, ap, _≡_, sym, mul-le-mul-left, arith, needs}
-use Rattle.theory.specs.declared.Location.{Location}
-use Rattle.rounding.specs.Cut.{cutOf}
-use Rattle.rounding.proofs.Scales.{positional}
+use Rattle.rounding.proofs.Prelude.{Location, cutOf, positional}
 use Rattle.wide.proofs.Cuts.{quotient-cut, exact-cut, ended-least}
 use Rattle.wide.proofs.long_division.cut_division.Statement.{statement}
 use Rattle.wide.proofs.long_division.cut_division.Tie as tie
@@ -24,9 +22,6 @@ returns c =
     let found : c .cut .result ≡ cutOf β (s .args .scale .digits) (v .quotient * β ^ v .place) (β ^ 0) = c .cut .ensures in
     found ∙ sym (exact-cut (positional (s .pre .0)) hD e (c .before .before .if1 .taken))
 
-locate-requires : tie.Need-locate-requires
-locate-requires c κs = let p = c .before .before .pre in omega (arith, p .1, p .2)
-
 returns-2 : tie.Need-returns-2
 returns-2 c =
     λ N D hD v.
@@ -37,4 +32,6 @@ returns-2 c =
     ∙ sym (quotient-cut (positional (p .0)) hD v (omega (arith, p .3, p .0 .bound-power)) (ended-least (p .0) (p .5) (c .before .if1 .left)))
 
 pub cut-division-spec : {M : Type 1} → statement M
-cut-division-spec = tie.close (tie.spec (λ c. search needs) cut-requires returns locate-requires returns-2)
+cut-division-spec =
+    tie.close
+    (tie.spec (λ c. search needs) cut-requires returns (λ c κs. let p = c .before .before .pre in omega (arith, p .1, p .2)) returns-2)

@@ -1,8 +1,6 @@
 -- `wide::long_division::cut_fraction` meets its contract, from zero, from below the lowest place, and from the digits that were taken.
 use Rattle.theory.proofs.Prelude.{ℕ, _≤_, _^_, _*_, _∙_, ap, sym, mul-pos, arith, needs}
-use Rattle.theory.proofs.Powers.{pow-pos}
-use Rattle.rounding.specs.Cut.{cutOf}
-use Rattle.rounding.proofs.Scales.{positional}
+use Rattle.rounding.proofs.Prelude.{pow-pos, cutOf, positional}
 use Rattle.wide.proofs.Digits.{taken-exact}
 use Rattle.wide.proofs.Cuts.{taken-quotient, under-cut, zero-cut}
 use Rattle.wide.proofs.long_division.cut_fraction.Statement.{statement}

@@ -7,9 +7,6 @@ use Rattle.wide.proofs.long_division.next_group.Tie as tie
 abbrev start : tie.After-struct-known2 → tie.Start
 start c = c .before .before
 
-mul-next : tie.Need-mul-next
-mul-next c = let h = start c .pre .0 in omega (arith, mul-le-mul (h .bound-most) (h .base-most))
-
 returns : tie.Need-returns
 returns c =
     let h = start (c .before .before .before) .pre .0 in
@@ -52,4 +49,5 @@ pub next-group-spec : {M : Type 1} → statement M
 next-group-spec =
     tie.close
     (tie.spec
-    (λ c. search needs) (λ c. search needs) mul-next returns (λ c. search needs) returns-2 returns-3)
+    (λ c. search needs) (λ c. search needs) (λ c. let h = start c .pre .0 in omega (arith, mul-le-mul (h .bound-most) (h .base-most)))
+    returns (λ c. search needs) returns-2 returns-3)

@@ -29,9 +29,6 @@ loop-holds c =
 rest : (c : tie.At-loop Inv-loop μ-loop) → c .loop .remainder < start c .args .divisor
 rest c = taken-exact (start c .args .scale .base) (start c .pre .2) (c .loop .inv .0) .1
 
-next-group-requires : tie.Need-next-group-requires Inv-loop μ-loop
-next-group-requires c κs = let h = c .before .before .before .before in (start h .pre .0, omega arith, omega arith)
-
 abbrev head : tie.After-next-group Inv-loop μ-loop → tie.At-loop Inv-loop μ-loop
 head c = c .before .before .before .before .before
 
@@ -54,33 +51,6 @@ lowered c =
     let below : head c .loop .remainder * unit c ≤ 2 ^ 32 * s .args .scale .base * unit c =
     mul-le-mul-right (unit c) (omega (arith, rest (head c), s .pre .3)) in
     omega (arith, below, mul-le-mul-left (2 ^ 32) (g .word))
-
-cast-lowered : tie.Need-cast-lowered Inv-loop μ-loop
-cast-lowered c = search needs
-
-mul-lowered : tie.Need-mul-lowered Inv-loop μ-loop
-mul-lowered c = omega (arith, lowered (c .before))
-
-div-digits : tie.Need-div-digits Inv-loop μ-loop
-div-digits c = omega (arith, start (head (c .before)) .pre .2)
-
-cast-digits : tie.Need-cast-digits Inv-loop μ-loop
-cast-digits c = omega (arith, turn (c .before) .next, start (head (c .before)) .pre .0 .bound-most)
-
-mul-quotient : tie.Need-mul-quotient Inv-loop μ-loop
-mul-quotient c = let a = c .before .before in omega (arith, turn a .next, start (head a) .pre .0 .bound-most)
-
-add-quotient : tie.Need-add-quotient Inv-loop μ-loop
-add-quotient c = let a = c .before .before in omega (arith, turn a .next, start (head a) .pre .0 .bound-most)
-
-rem-remainder : tie.Need-rem-remainder Inv-loop μ-loop
-rem-remainder c = omega (arith, start (head (c .before .before)) .pre .2)
-
-sub-place : tie.Need-sub-place Inv-loop μ-loop
-sub-place c = c .before .before .before .next-group .ensures .within
-
-loop-less : tie.Need-loop-less Inv-loop μ-loop
-loop-less c = let g = c .before .before .before .next-group .ensures in omega (arith, g .some, g .within)
 
 loop-again : tie.Need-loop-again Inv-loop μ-loop
 loop-again c =
@@ -105,18 +75,16 @@ yields c e =
       ended = e;
     }
 
-returns : tie.Need-returns Inv-loop μ-loop
-returns c = yields (c .before .before) (all-digits (c .if1 .taken))
-
-returns-2 : tie.Need-returns-2 Inv-loop μ-loop
-returns-2 c = yields (c .before .before .before) (lowest-place (c .if2 .taken))
-
-returns-3 : tie.Need-returns-3 Inv-loop μ-loop
-returns-3 c = yields (c .before .before .before .before) (no-rest (c .if3 .taken))
-
 pub take-digits-spec : {M : Type 1} → statement M
 take-digits-spec =
     tie.close
     (tie.spec
-    Inv-loop μ-loop loop-holds next-group-requires cast-lowered mul-lowered div-digits cast-digits mul-quotient add-quotient rem-remainder sub-place
-    loop-less loop-again returns returns-2 returns-3)
+    Inv-loop μ-loop loop-holds (λ c κs. let h = c .before .before .before .before in (start h .pre .0, omega arith, omega arith))
+    (λ c. search needs) (λ c. omega (arith, lowered (c .before))) (λ c. omega (arith, start (head (c .before)) .pre .2))
+    (λ c. omega (arith, turn (c .before) .next, start (head (c .before)) .pre .0 .bound-most))
+    (λ c. let a = c .before .before in omega (arith, turn a .next, start (head a) .pre .0 .bound-most))
+    (λ c. let a = c .before .before in omega (arith, turn a .next, start (head a) .pre .0 .bound-most))
+    (λ c. omega (arith, start (head (c .before .before)) .pre .2)) (λ c. c .before .before .before .next-group .ensures .within)
+    (λ c. let g = c .before .before .before .next-group .ensures in omega (arith, g .some, g .within)) loop-again
+    (λ c. yields (c .before .before) (all-digits (c .if1 .taken))) (λ c. yields (c .before .before .before) (lowest-place (c .if2 .taken)))
+    (λ c. yields (c .before .before .before .before) (no-rest (c .if3 .taken))))

@@ -4,11 +4,6 @@ use Rattle.rounding.proofs.Scales.{least-unit, least-most, least-bound, square,
 use Rattle.wide.proofs.product.product_cut.Statement.{statement}
 use Rattle.wide.proofs.product.product_cut.Tie as tie
 
-mul-if1 : tie.Need-mul-if1
-mul-if1 c =
-    let h = c .before .pre .0 in
-    omega (arith, mul-le-mul (least-most h) (least-most h), square h, square-most h)
-
 cut-long-requires : tie.Need-cut-long-requires
 cut-long-requires c κs =
     let s = c .before .before .before in
@@ -19,4 +14,6 @@ cut-long-requires c κs =
 pub product-cut-spec : {M : Type 1} → statement M
 product-cut-spec =
     tie.close
-    (tie.spec (λ c. search needs) mul-if1 (λ c. search needs) cut-long-requires (λ c. search needs) (λ c κs. search needs) (λ c. search needs))
+    (tie.spec
+    (λ c. search needs) (λ c. let h = c .before .pre .0 in omega (arith, mul-le-mul (least-most h) (least-most h), square h, square-most h))
+    (λ c. search needs) cut-long-requires (λ c. search needs) (λ c κs. search needs) (λ c. search needs))

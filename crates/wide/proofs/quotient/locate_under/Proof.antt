@@ -1,8 +1,6 @@
 -- `wide::quotient::locate_under` meets its contract.
 use Rattle.theory.proofs.Prelude.{ℕ, _≤_, _*_, _∙_, ap, sym, mul-pos, mul-le-mul, arith, needs}
-use Rattle.format.specs.Formats.{greatestPower}
-use Rattle.rounding.specs.Location.{located}
-use Rattle.rounding.proofs.Scales.{power-at, power-one}
+use Rattle.rounding.proofs.Prelude.{greatestPower, located, power-at, power-one}
 use Rattle.wide.proofs.Quotients.{leading-pos, under-below}
 use Rattle.wide.proofs.quotient.locate_under.Statement.{statement}
 use Rattle.wide.proofs.quotient.locate_under.Tie as tie

@@ -11,19 +11,14 @@ digit-count-requires c κs =
     let some : 1 ≤ c .args .scale .bound = omega arith in
     (p .0, p .1, omega (arith, mul-le-mul-left (c .args .scale .bound) some))
 
-sub-shift : tie.Need-sub-shift
-sub-shift c = let p = c .before .before .pre in digits-fit (p .0) (c .before .digit-count .ensures) (p .2)
-
 made : (c : tie.After-power) → Shifted (c .before .before .before .args .scale) (c .before .before .before .args .m) (c .before .before .before .args .m * c .power .result) (c .before .before .before .args .scale .digits - c .before .before .digit-count .result)
 made c =
     let p = c .before .before .before .pre in
     shifted (p .0) (c .before .before .digit-count .ensures) (p .1) (p .2) (c .power .ensures)
 
-mul-t7 : tie.Need-mul-t7
-mul-t7 c = omega (arith, made c .leading .most, c .before .before .before .pre .0 .bound-most)
-
-returns : tie.Need-returns
-returns c = made c
-
 pub normalise-spec : {M : Type 1} → statement M
-normalise-spec = tie.close (tie.spec digit-count-requires sub-shift (λ c κs. search needs) mul-t7 returns)
+normalise-spec =
+    tie.close
+    (tie.spec
+    digit-count-requires (λ c. let p = c .before .before .pre in digits-fit (p .0) (c .before .digit-count .ensures) (p .2))
+    (λ c κs. search needs) (λ c. omega (arith, made c .leading .most, c .before .before .before .pre .0 .bound-most)) (λ c. made c))

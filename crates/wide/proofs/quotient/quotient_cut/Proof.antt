@@ -1,9 +1,6 @@
 -- `wide::quotient::quotient_cut` meets its contract: by how far the digits reach.
 use Rattle.theory.proofs.Prelude.{ℕ, _≤_, _+_, _^_, _*_, _-_, ⊎-elim, _∙_, ap, _≡_, sym, subst, mul-le-mul-left, arith, needs}
-use Rattle.theory.proofs.Powers.{pow-mono}
-use Rattle.theory.specs.declared.Location.{Location}
-use Rattle.rounding.specs.Cut.{dropped}
-use Rattle.rounding.proofs.Scales.{digits-most, power-at}
+use Rattle.rounding.proofs.Prelude.{pow-mono, Location, dropped, digits-most, power-at}
 use Rattle.wide.proofs.Quotients.{Kept, kept-less, kept-more, quotient-drop, quotient-under}
 use Rattle.wide.proofs.quotient.quotient_cut.Statement.{statement}
 use Rattle.wide.proofs.quotient.quotient_cut.Tie as tie
@@ -31,17 +28,6 @@ unit-power c =
 shifted : (c : tie.Joined1) → start c .args .a * c .if1 .unit ≡ start c .args .a * start c .args .scale .base ^ c .if1 .digits
 shifted c = ap (λ (v : ℕ). start c .args .a * v) (unit-power c)
 
-add-if2 : tie.Need-add-if2
-add-if2 c =
-    let j = c .before in
-    omega (arith, digits-kept j, digits-most (start j .pre .0), start j .pre .4)
-
-divide-shifted-requires : tie.Need-divide-shifted-requires
-divide-shifted-requires c κs =
-    let j = c .before .before .before in
-    let p = start j .pre in
-    (p .0, p .2, omega (arith, kept j .below, shifted j))
-
 returns : tie.Need-returns
 returns c =
     let j = c .before .before .before .before in
@@ -52,9 +38,6 @@ returns c =
     c .divide-shifted .ensures
     ∙ ap (λ (n : ℕ). dropped n (a .b) place) (shifted j)
     ∙ sym (quotient-drop (p .0) (p .1) (p .2) (j .if1 .digits) (kept j) (a .high) (a .low) (j .if1 .digits) place (omega arith) (omega arith))
-
-power-requires : tie.Need-power-requires
-power-requires c κs = let j = c .before .before .before in (start j .pre .0, omega (arith, digits-kept j))
 
 part : (c : tie.After-power) → start (c .before .before .before .before) .args .a * c .power .result
     ≡ start (c .before .before .before .before) .args .a * start (c .before .before .before .before) .args .scale .base ^ (start (c .before .before .before .before) .args .high - start (c .before .before .before .before) .args .low)
@@ -92,5 +75,8 @@ pub quotient-cut-spec : {M : Type 1} → statement M
 quotient-cut-spec =
     tie.close
     (tie.spec
-    (λ c. search needs) add-if2 (λ c. search needs) (λ c. search needs) divide-shifted-requires returns power-requires divide-shifted-requires-2
-    returns-2 (λ c. search needs) (λ c κs. search needs) returns-3)
+    (λ c. search needs) (λ c. let j = c .before in omega (arith, digits-kept j, digits-most (start j .pre .0), start j .pre .4))
+    (λ c. search needs) (λ c. search needs)
+    (λ c κs. let j = c .before .before .before in let p = start j .pre in (p .0, p .2, omega (arith, kept j .below, shifted j))) returns
+    (λ c κs. let j = c .before .before .before in (start j .pre .0, omega (arith, digits-kept j))) divide-shifted-requires-2 returns-2
+    (λ c. search needs) (λ c κs. search needs) returns-3)

@@ -5,11 +5,6 @@ use Rattle.wide.proofs.Sums.{sum-finishes, sum-rounds}
 use Rattle.wide.proofs.sum.aligned_sum.Statement.{statement}
 use Rattle.wide.proofs.sum.aligned_sum.Tie as tie
 
-finish-requires : tie.Need-finish-requires
-finish-requires c κs =
-    let p = c .before .before .before .pre in
-    sum-finishes (p .0) (p .1) (p .2) (c .far-cut .ensures)
-
 returns-2 : tie.Need-returns-2
 returns-2 c =
     let a = c .before .before .before .before .args in
@@ -18,4 +13,6 @@ returns-2 c =
 pub aligned-sum-spec : {M : Type 1} → statement M
 aligned-sum-spec =
     tie.close
-    (tie.spec (λ c κs. search needs) (λ c. search needs) (λ c κs. search needs) finish-requires returns-2)
+    (tie.spec
+    (λ c κs. search needs) (λ c. search needs) (λ c κs. search needs)
+    (λ c κs. let p = c .before .before .before .pre in sum-finishes (p .0) (p .1) (p .2) (c .far-cut .ensures)) returns-2)

@@ -1,9 +1,6 @@
 -- `wide::sum::below_power` meets its contract.
 use Rattle.theory.proofs.Prelude.{ℕ, _^_, _-_, _∙_, ap, _≡_, sym, arith, needs}
-use Rattle.theory.proofs.Powers.{pow-half}
-use Rattle.rounding.specs.Location.{located}
-use Rattle.rounding.proofs.Locations.{located-above}
-use Rattle.rounding.proofs.Scales.{power-at}
+use Rattle.rounding.proofs.Prelude.{pow-half, located, located-above, power-at}
 use Rattle.wide.specs.Sum.{belowPower}
 use Rattle.wide.proofs.sum.below_power.Statement.{statement}
 use Rattle.wide.proofs.sum.below_power.Tie as tie

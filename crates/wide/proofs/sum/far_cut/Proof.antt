@@ -1,8 +1,7 @@
 -- `wide::sum::far_cut` meets its contract: the three cases of a small summand.
 use Rattle.theory.proofs.Prelude.{ℕ, _≤_, _<_, true, false, Bool, cond, not, _&&_, Bool·beq, ⊎-elim, _≡_, sym, refl, arith, leb, boolByte, needs, leb-true, leb-false}
 use Rattle.theory.proofs.Tests.{never}
-use Rattle.theory.specs.declared.Location.{Location}
-use Rattle.theory.specs.declared.Location.the-variants.{Below, Above}
+use Rattle.rounding.proofs.Prelude.{Location, Below, Above}
 use Rattle.wide.proofs.Sums.{far-none, far-power, far-selected}
 use Rattle.wide.proofs.sum.far_cut.Statement.{statement}
 use Rattle.wide.proofs.sum.far_cut.Tie as tie
@@ -34,9 +33,6 @@ start c = c .before .before
 -- y is not zero
 some : (c : tie.Else1) → 1 ≤ start c .args .y .significand
 some c = omega (arith, c .if1 .left)
-
-returns : tie.Need-returns
-returns c = let s = c .before .before in far-none (s .pre .0) (s .args .y) (s .pre .1) (c .if1 .taken)
 
 abbrev digits : tie.After-struct-known4 → tie.Else1
 digits c = c .before .before .before
@@ -72,4 +68,6 @@ returns-3 c =
 pub far-cut-spec : {M : Type 1} → statement M
 far-cut-spec =
     tie.close
-    (tie.spec returns (λ c. search needs) (λ c. search needs) (λ c κs. search needs) returns-2 (λ c. search needs) sub-t17 returns-3)
+    (tie.spec
+    (λ c. let s = c .before .before in far-none (s .pre .0) (s .args .y) (s .pre .1) (c .if1 .taken)) (λ c. search needs)
+    (λ c. search needs) (λ c κs. search needs) returns-2 (λ c. search needs) sub-t17 returns-3)

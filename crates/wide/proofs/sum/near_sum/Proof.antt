@@ -13,12 +13,6 @@ most c = let p = c .before .pre in near-most (p .0) (p .1) (p .2) (c .before .ar
 fits : (c : tie.Start) → c .args .scale .bound * c .args .scale .bound < 2 ^ 63
 fits c = omega (arith, square (c .pre .0), square-most (c .pre .0))
 
-mul-high : tie.Need-mul-high
-mul-high c = omega (arith, most (c .before), fits (c .before .before))
-
-add-signed-requires : tie.Need-add-signed-requires
-add-signed-requires c κs = omega (arith, most (c .before .before), fits (c .before .before .before))
-
 near-cut-requires : tie.Need-near-cut-requires
 near-cut-requires c κs =
     let b = c .before .before .before in
@@ -42,14 +36,11 @@ cut c =
     let p = s .pre in
     near-sum-cut (p .0) (p .1) (p .2) (s .args .gap) (p .3) (c .before .before .before .before .power .ensures) (c .before .add-signed .ensures) (c .near-cut .ensures)
 
-finish-requires : tie.Need-finish-requires
-finish-requires c κs = let s = start c in sum-finishes (s .pre .0) (s .pre .1) (s .pre .2) (cut c)
-
-returns : tie.Need-returns
-returns c = let s = start (c .before) in sum-rounds (exact s) (cut (c .before)) (c .finish .ensures)
-
 pub near-sum-spec : {M : Type 1} → statement M
 near-sum-spec =
     tie.close
     (tie.spec
-    (λ c κs. search needs) (λ c. search needs) mul-high (λ c. search needs) add-signed-requires near-cut-requires finish-requires returns)
+    (λ c κs. search needs) (λ c. search needs) (λ c. omega (arith, most (c .before), fits (c .before .before))) (λ c. search needs)
+    (λ c κs. omega (arith, most (c .before .before), fits (c .before .before .before))) near-cut-requires
+    (λ c κs. let s = start c in sum-finishes (s .pre .0) (s .pre .1) (s .pre .2) (cut c))
+    (λ c. let s = start (c .before) in sum-rounds (exact s) (cut (c .before)) (c .finish .ensures)))

@@ -31,9 +31,6 @@ ordered c =
     (record { high-operand = p .1; low-operand = p .2; order = omega (arith, w .0 .left); sum = refl }))
     (c .if1 .came)
 
-sub-gap : tie.Need-sub-gap
-sub-gap c = ordered (c .before .before) .order
-
 aligned-sum-requires : tie.Need-aligned-sum-requires
 aligned-sum-requires c κs =
     let j = c .before .before in
@@ -47,4 +44,4 @@ returns c =
     subst (λ (z : ℤ). RoundsZ (s .scale .base) (s .scale .digits) (s .direction) z (c .aligned-sum .result)) (ordered j .sum) (c .aligned-sum .ensures)
 
 pub sum-spec : {M : Type 1} → statement M
-sum-spec = tie.close (tie.spec sub-gap aligned-sum-requires returns)
+sum-spec = tie.close (tie.spec (λ c. ordered (c .before .before) .order) aligned-sum-requires returns)
