@@ -21,12 +21,12 @@ static BID_UINT32 encode(zurkeb_number x) {
     return sign | 0x60000000u | biased << 21 | (m & 0x1fffffu);
 }
 
-/* A finite result as a number of published format 3: as many digits as there is room for, zero plus and at the lowest exponent. */
+/* A finite result as a number of published format 3: as many digits as there is room for, zero at the lowest exponent. */
 static zurkeb_number decode(BID_UINT32 n) {
     bool wide = (n & 0x60000000u) == 0x60000000u;
     zurkeb_number x = {n >> 31, wide ? 0x800000u | (n & 0x1fffffu) : n & 0x7fffffu, (int32_t)(n >> (wide ? 21 : 23) & 255) - 101};
     if (x.significand == 0)
-        return (zurkeb_number){0, 0, -101};
+        return (zurkeb_number){n >> 31, 0, -101};
     while (x.significand < 1000000 && x.exponent > -101) {
         x.significand *= 10;
         x.exponent--;

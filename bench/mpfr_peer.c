@@ -53,7 +53,7 @@ static bool agrees(enum operation operation, uint32_t direction, int index, zurk
     int ternary = calls[operation](result, left[index], right[index], modes[direction]);
     mpfr_subnormalize(result, ternary, modes[direction]);
     read_number(ours_read, ours);
-    return mpfr_equal_p(result, ours_read);
+    return mpfr_equal_p(result, ours_read) && !mpfr_signbit(result) == !mpfr_signbit(ours_read);
 }
 
 const peer mpfr_peer = {true, "MPFR", "libmpfr-dev", prepare, work_of, has_direction, agrees};

@@ -57,8 +57,8 @@ typedef struct zurkeb_format {
     int32_t emax;
 } zurkeb_format;
 
-/* The value (-1)^negative * significand * base^exponent. In an answer `negative` is 0 or 1; a number that is handed over with any
- * other value there is in no format, and is refused by 3. */
+/* The value (-1)^negative * significand * base^exponent. Zero has either sign, and exponent emin. In an answer `negative` is 0 or 1; a
+ * number that is handed over with any other value there is in no format, and is refused by 3. */
 typedef struct zurkeb_number {
     uint32_t negative; /* 0 plus, 1 minus */
     uint32_t significand;
@@ -167,16 +167,16 @@ zurkeb_published_answer zurkeb_published(uint32_t number);
 uint32_t zurkeb_check_number(zurkeb_format format, zurkeb_number x);
 /* The order of a and b by exact value. Refuses 1, 3. */
 zurkeb_order_answer zurkeb_compare(zurkeb_format format, zurkeb_number a, zurkeb_number b);
-/* -x and |x|. Refuse 1, 3. */
+/* -x and |x|, of zero too. Refuse 1, 3. */
 zurkeb_number_answer zurkeb_negate(zurkeb_format format, zurkeb_number x);
 zurkeb_number_answer zurkeb_magnitude(zurkeb_format format, zurkeb_number x);
 
 /* The first place (the greatest power of the base not above |x|), the last place (base^exponent), and the place of the least
- * nonzero digit; all three are 0 at 0. Refuse 1, 3. */
+ * nonzero digit; all three are plus zero at either zero. Refuse 1, 3. */
 zurkeb_number_answer zurkeb_ufp(zurkeb_format format, zurkeb_number x);
 zurkeb_number_answer zurkeb_ulp(zurkeb_format format, zurkeb_number x);
 zurkeb_number_answer zurkeb_uls(zurkeb_format format, zurkeb_number x);
-/* The greatest number of the format below x, and the least above. Refuse 1, 3, 5. */
+/* The greatest number of the format below x, and the least above; where that is zero, it has the sign of x. Refuse 1, 3, 5. */
 zurkeb_number_answer zurkeb_predecessor(zurkeb_format format, zurkeb_number x);
 zurkeb_number_answer zurkeb_successor(zurkeb_format format, zurkeb_number x);
 

@@ -22,7 +22,7 @@ static float of_pattern(uint32_t n) {
 static uint32_t pattern_of(float x) {
     uint32_t n;
     memcpy(&n, &x, sizeof n);
-    return n == 0x80000000u ? 0 : n; /* zero is written 00000000 */
+    return n;
 }
 
 static uint32_t size_of(uint32_t n) { return n & 0x7fffffffu; }

@@ -17,7 +17,7 @@ static float of_pattern(uint32_t n) {
 static uint32_t pattern_of(float x) {
     uint32_t n;
     memcpy(&n, &x, sizeof n);
-    return n == 0x80000000u ? 0 : n; /* zero is written 00000000 */
+    return n;
 }
 
 static void fail(const char *what, uint32_t a, uint32_t b, uint32_t direction, uint64_t ours, uint64_t theirs) {
@@ -126,6 +126,22 @@ static void interface(void) {
     same("difference", zurkeb_difference(d, 0, one, one).number.significand, 0);
     same("product", zurkeb_product(d, 0, greatest, greatest).refusal, ZURKEB_TOO_LARGE);
     same("quotient", zurkeb_quotient(d, 0, one, zero).refusal, ZURKEB_DIVISOR_ZERO);
+    zurkeb_number minus_zero = {1, 0, -5};
+    same("minus zero is a number", zurkeb_check_number(d, minus_zero), 0);
+    same("the zeros are equal", zurkeb_compare(d, minus_zero, zero).refusal == 0 && zurkeb_compare(d, minus_zero, zero).order == 0, 1);
+    same("negate", zurkeb_negate(d, zero).number.negative, 1);
+    same("negate", zurkeb_negate(d, minus_zero).number.negative, 0);
+    same("magnitude", zurkeb_magnitude(d, minus_zero).number.negative, 0);
+    same("ufp", zurkeb_ufp(d, minus_zero).number.negative + zurkeb_ulp(d, minus_zero).number.negative + zurkeb_uls(d, minus_zero).number.negative, 0);
+    same("quotient", zurkeb_quotient(d, 0, one, minus_zero).refusal, ZURKEB_DIVISOR_ZERO);
+    for (uint32_t direction = 0; direction < 5; direction++) {
+        same("difference", zurkeb_difference(d, direction, one, one).number.negative, direction == ZURKEB_DOWNWARD);
+        same("sum", zurkeb_sum(d, direction, zero, minus_zero).number.negative, direction == ZURKEB_DOWNWARD);
+        same("sum", zurkeb_sum(d, direction, minus_zero, minus_zero).number.negative, 1);
+        same("product", zurkeb_product(d, direction, minus_zero, one).number.negative, 1);
+        same("fraction", zurkeb_fraction(d, direction, 0, 7).number.negative, 0);
+    }
+    same("fraction", zurkeb_fraction(d, ZURKEB_TOWARD_ZERO, -1, UINT32_MAX).number.negative, 1);
     zurkeb_format routes = {10, 3, -3, 3}, short_of = {10, 3, -2, 3};
     zurkeb_number unit = {0, 100, -2};
     same("ufp_toward_zero", zurkeb_ufp_toward_zero(routes, unit).number.significand, 100);

@@ -174,15 +174,14 @@ static void each_call(zurkeb_format f, uint32_t sign) {
 static void good_signs(zurkeb_format f) {
     zurkeb_number a = member(f), b = member(f);
     zurkeb_number minus = zurkeb_negate(f, a).number, size = zurkeb_magnitude(f, a).number;
-    uint32_t some = a.significand != 0;
-    same("negate", minus.negative, some & !a.negative);
+    same("negate", minus.negative, !a.negative);
     same("negate", minus.significand == a.significand && minus.exponent == a.exponent, 1);
     same("magnitude", size.negative, 0);
     same("magnitude", size.significand == a.significand && size.exponent == a.exponent, 1);
-    same("compare", (uint32_t)zurkeb_compare(f, a, minus).order, !some ? 0 : a.negative ? (uint32_t)-1 : 1);
+    same("compare", (uint32_t)zurkeb_compare(f, a, minus).order, a.significand == 0 ? 0 : a.negative ? (uint32_t)-1 : 1);
     zurkeb_rounded_answer product = zurkeb_product(f, ZURKEB_NEAREST_EVEN, a, b), sum = zurkeb_sum(f, ZURKEB_NEAREST_EVEN, a, minus);
     if (product.refusal == 0)
-        same("product", product.number.negative, product.number.significand != 0 && a.negative != b.negative);
+        same("product", product.number.negative, a.negative != b.negative);
     same("sum", sum.refusal + sum.number.negative + sum.number.significand, 0);
 }
 
@@ -214,9 +213,8 @@ static void pattern(uint32_t n, uint32_t sign) {
     zurkeb_number_answer r = zurkeb_read_pattern(n);
     if (r.refusal != 0)
         return;
-    uint32_t written = n == 0x80000000u ? 0 : n; /* zero is written 00000000 */
-    same("read_pattern", r.number.negative, written >> 31);
-    same("write_pattern", zurkeb_write_pattern(r.number), written);
+    same("read_pattern", r.number.negative, n >> 31);
+    same("write_pattern", zurkeb_write_pattern(r.number), n);
     r.number.negative = sign;
     same("write_pattern", zurkeb_write_pattern(r.number), (uint64_t)ZURKEB_NUMBER_NOT_IN_FORMAT << 32);
 }

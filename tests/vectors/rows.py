@@ -12,7 +12,7 @@ significand, exponent. Below zero is two's complement. Columns that a call does 
   numbers of binary32."""
 import os
 
-FILES = ["binary32_nearest.txt", "binary32_directions.txt", "decimal.txt", "fractions.txt", "scope.txt"]
+FILES = ["binary32_nearest.txt", "binary32_directions.txt", "decimal.txt", "minus_zero.txt", "fractions.txt", "scope.txt"]
 FLAGGED = ["inexact/binary32_directions.txt", "inexact/decimal.txt"]
 # the operations in the order of their numbers, which is that of `calls` in crates/vectors/specs/Calls.antt
 NUMBERS = ["sum", "diff", "prod", "quot", "frac", "cmp", "abs", "neg", "pred", "succ", "ufp"]
@@ -51,7 +51,7 @@ def number_of(pattern):
     bits = int(pattern, 16)
     field, fraction = bits >> 23 & 255, bits & 2**23 - 1
     sign, significand, exponent = bits >> 31, fraction + (2**23 if field else 0), max(field, 1) - 150
-    return [sign if significand else 0, significand, exponent]
+    return [sign, significand, exponent]
 
 
 def flagged_row(line):

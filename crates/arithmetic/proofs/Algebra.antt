@@ -1,10 +1,11 @@
 -- Sum and product commute, the difference is the sum with the second number negated, and x + 0, x × 1 and x ÷ 1 are x.
-use Rattle.theory.proofs.Prelude.{ℕ, _≤_, _+_, _^_, _-_, suc, zero, true, false, Bool, not, xor, [], _∷_, List, _∙_, ap, _≡_, sym, refl, pow-zero, mul-comm, arith, ℤ, pos, _+ℤ_, natAbs, _-ℤ_, negℤ, +ℤ-comm}
-use Rattle.arithmetic.proofs.Prelude.{all, _and_, signed, pow-pos, Format, highestPlace, Given, gives, direction, gives-same, gives-not-refused, Number, aboveZero, belowZero, member, magnitude, value, number, members, member-made, checks-end, roundedZ, roundedProduct, summed, subtracted, multiplied, divided, and-left, Admitted, admits, distances, checked, Checks, not-admitted, no-direction, not-member, all-passed, signed-member, negated-value}
-use Rattle.theory.proofs.Integers.{above, neg-above, size-parts, size-signed}
+use Rattle.theory.proofs.Prelude.{ℕ, _≤_, _+_, _^_, _-_, suc, zero, true, false, Bool, not, xor, [], _∷_, List, _∙_, ap, _≡_, sym, refl, ap₂, pow-zero, mul-comm, arith, ℤ, pos, _+ℤ_, natAbs, _-ℤ_, negℤ, +ℤ-comm}
+use Rattle.arithmetic.proofs.Prelude.{Direction, all, _and_, signed, pow-pos, Format, highestPlace, Given, gives, direction, gives-same, gives-not-refused, Number, aboveZero, belowZero, member, magnitude, value, number, members, member-made, checks-end, roundedSum, roundedZ, roundedProduct, summed, subtracted, multiplied, divided, and-left, Admitted, admits, distances, checked, Checks, not-admitted, no-direction, not-member, all-passed, signed-member, negated-value}
+use Rattle.theory.proofs.Integers.{size-parts, size-signed, plus-sign}
 use Rattle.number.specs.Signs.{negated}
+use Rattle.arithmetic.specs.Operations.{zeroSign}
 use Rattle.wide.proofs.Signs.{sum-none}
-use Rattle.arithmetic.proofs.Prepared.{no-magnitude, parts-above, parts-below, divisor-positive, divisor-some}
+use Rattle.arithmetic.proofs.Prepared.{zero-swap, no-magnitude, parts-above, parts-below, divisor-positive, divisor-some}
 use Rattle.arithmetic.proofs.Outcome.{rounded-exact, roundedZ-exact}
 use Rattle.arithmetic.proofs.Calls.{Checked, call-passed}
 
@@ -21,12 +22,15 @@ and-swap true false = refl
 and-swap false true = refl
 and-swap false false = refl
 
-xor-swap : (s t : Bool) → xor s t ≡ xor t s
+pub xor-swap : (s t : Bool) → xor s t ≡ xor t s
 unfolding xor
 xor-swap true true = refl
 xor-swap true false = refl
 xor-swap false true = refl
 xor-swap false false = refl
+
+pub sum-swap : (f : Format) (d : Direction) (a b : Number) → roundedSum f d a b ≡ roundedSum f d b a
+sum-swap f d a b = ap₂ (roundedZ f d) (zero-swap d (a .negative) (b .negative)) (+ℤ-comm (value f a) (value f b))
 
 module _ (f : Format) (d : ℕ) (a b : Number) where
   checked-swap : {g h : Given Number} → g ≡ h → checked f (d ∷ []) (a ∷ b ∷ []) g ≡ checked f (d ∷ []) (b ∷ a ∷ []) h
@@ -35,7 +39,7 @@ module _ (f : Format) (d : ℕ) (a b : Number) where
 
   pub summed-commutes : summed f d a b ≡ summed f d b a
   unfolding summed
-  summed-commutes = checked-swap (ap (roundedZ f (direction d)) (+ℤ-comm (value f a) (value f b)))
+  summed-commutes = checked-swap (sum-swap f (direction d) a b)
 
   pub multiplied-commutes : multiplied f d a b ≡ multiplied f d b a
   unfolding multiplied roundedProduct
@@ -43,7 +47,7 @@ module _ (f : Format) (d : ℕ) (a b : Number) where
 
   -- ---- the difference is the sum with the second number negated
   pub subtracted-negated : {c : Number} → negated f b ≡ gives c → subtracted f d a b ≡ summed f d a c
-  unfolding subtracted summed all
+  unfolding subtracted summed all number
   subtracted-negated {c} h = go (checks-end f [] (b ∷ []) (gives (number f (not (b .negative)) (magnitude f b)))) h
     where
       go : {g : Given Number} → Checks f [] (b ∷ []) (gives (number f (not (b .negative)) (magnitude f b))) g → g ≡ gives c → subtracted f d a b ≡ summed f d a c
@@ -56,19 +60,15 @@ module _ (f : Format) (d : ℕ) (a b : Number) where
           let i = members b ok in-b in
           let same : number f (not (b .negative)) (magnitude f b) ≡ c = gives-same e in
           let in-format : member f c ≡ true = rw (← same) (member-made _ ok (signed-member ok i (not (b .negative)))) in
+          let turned-sign : c .negative ≡ not (b .negative) = ap (λ (n : Number). n .negative) (sym same) in
           let turned-value : value f c ≡ negℤ (value f b) = rw (← same) (negated-value ok i) in
-          checked-same f d (a ∷ b ∷ []) (a ∷ c ∷ []) (rw (in-b, in-format)) (ap (λ (z : ℤ). roundedZ f (direction d) (value f a +ℤ z)) (sym turned-value))
+          checked-same f d (a ∷ b ∷ []) (a ∷ c ∷ []) (rw (in-b, in-format)) (ap₂ (λ (s : Bool) (z : ℤ). roundedZ f (direction d) (zeroSign (direction d) (a .negative) s) (value f a +ℤ z)) (sym turned-sign) (sym turned-value))
 
 -- ---- zero and one
 -- u is 1, which is β ^ -Emin units: no format with Emin above 0 has it
 pub record One (f : Format) (u : Number) : Type 0 where
   pub low : aboveZero (f .emin) ≡ 0
   pub value : value f u ≡ pos (f .base ^ belowZero (f .emin))
-
--- a sign that makes a number above 0
-plus : (t : Bool) (n m : ℕ) → signed t n ≡ pos m → 1 ≤ m → t ≡ false
-plus true n m e h = absurd (omega (arith, neg-above (pos n), ap above e))
-plus false n m e h = refl
 
 pub xor-plus : (s t : Bool) → t ≡ false → xor s t ≡ s
 unfolding xor
@@ -82,7 +82,7 @@ module _ {f : Format} (ok : Admitted f) {u : Number} (o : One f u) where
 
   one-plus : u .negative ≡ false
   unfolding value
-  one-plus = plus (u .negative) (magnitude f u) (f .base ^ belowZero (f .emin)) (o .value) (pow-pos (ok .base-low) (belowZero (f .emin)))
+  one-plus = plus-sign (u .negative) (magnitude f u) (f .base ^ belowZero (f .emin)) (o .value) (pow-pos (ok .base-low) (belowZero (f .emin)))
 
   one-unit : f .base ^ aboveZero (f .emin) ≡ 1
   one-unit = rw (o .low) (pow-zero (f .base))
@@ -95,25 +95,29 @@ module _ {f : Format} (ok : Admitted f) {u : Number} (o : One f u) where
       by (suc m) e = omega arith
 
 module _ {f : Format} {d : ℕ} {x u : Number} (c : Checked f d x u) where
-  pub summed-zero : u .significand ≡ 0 → summed f d x u ≡ gives x
+  -- but for a zero of another sign
+  pub summed-zero : u .significand ≡ 0 → (magnitude f x ≡ 0 → zeroSign (direction d) (x .negative) (u .negative) ≡ x .negative) → summed f d x u ≡ gives x
   unfolding summed value
-  summed-zero z =
+  summed-zero z n =
       let same : value f x +ℤ value f u ≡ value f x =
       rw (no-magnitude f u z) (sum-none (x .negative) (u .negative) (magnitude f x)) in
-      rw (call-passed f d x u c) (roundedZ-exact (c .admits) (direction d) (c .first) (value f x +ℤ value f u) same)
+      rw (call-passed f d x u c) (roundedZ-exact (c .admits) (direction d) (c .first) _ (value f x +ℤ value f u) same n)
 
   -- the exact result has the sign and the magnitude of x
   module _ (o : One f u) where
+    same : xor (x .negative) (u .negative) ≡ x .negative
+    same = xor-plus (x .negative) (u .negative) (one-plus (c .admits) o)
+
     own : signed (xor (x .negative) (u .negative)) (magnitude f x) ≡ value f x
     unfolding value
-    own = rw (xor-plus (x .negative) (u .negative) (one-plus (c .admits) o))
+    own = rw same
 
     pub multiplied-one : multiplied f d x u ≡ gives x
     unfolding multiplied roundedProduct
     multiplied-one =
         rw (call-passed f d x u c)
         (rounded-exact (c .admits) (direction d) (c .first) _ _ (pow-pos (c .admits .base-low) (belowZero (f .emin)))
-        (rw (one-unit (c .admits) o, one-size (c .admits) o) (omega arith)) own)
+        (rw (one-unit (c .admits) o, one-size (c .admits) o) (omega arith)) own (λ _. same))
 
     pub divided-one : divided f d x u ≡ gives x
     unfolding divided
@@ -121,7 +125,7 @@ module _ {f : Format} {d : ℕ} {x u : Number} (c : Checked f d x u) where
         let some = one-some (c .admits) o in
         rw (call-passed f d x u c, divisor-some (c .admits) (direction d) x u some)
         (rounded-exact (c .admits) (direction d) (c .first) _ _ (divisor-positive (c .admits) u some)
-        (rw (one-unit (c .admits) o, one-size (c .admits) o) (omega arith)) own)
+        (rw (one-unit (c .admits) o, one-size (c .admits) o) (omega arith)) own (λ _. same))
 
 module _ {f : Format} (ok : Admitted f) where
   -- Emax - Emin, for Emin at most 0

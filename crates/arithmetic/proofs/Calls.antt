@@ -86,11 +86,11 @@ module _ (f : Format) (d : ℕ) (a b : Number) where
 
   pub summed-rounds : CallRounds f d a b (value f a +ℤ value f b) 1 (summed f d a b)
   unfolding summed
-  summed-rounds = rounds (λ c. roundedZ-outcome (c .admits) (direction d) (value f a +ℤ value f b))
+  summed-rounds = rounds (λ c. roundedZ-outcome (c .admits) (direction d) _ (value f a +ℤ value f b))
 
   pub subtracted-rounds : CallRounds f d a b (value f a -ℤ value f b) 1 (subtracted f d a b)
   unfolding subtracted
-  subtracted-rounds = rounds (λ c. roundedZ-outcome (c .admits) (direction d) (value f a -ℤ value f b))
+  subtracted-rounds = rounds (λ c. roundedZ-outcome (c .admits) (direction d) _ (value f a -ℤ value f b))
 
   pub multiplied-rounds : CallRounds f d a b (value f a *ℤ value f b *ℤ pos (f .base ^ aboveZero (f .emin))) (f .base ^ belowZero (f .emin)) (multiplied f d a b)
   unfolding multiplied roundedProduct

@@ -1,11 +1,11 @@
 -- What the answer of the fraction says: n over m is ± N / D units, rounded; which refusal comes where; equal fractions are answered
 -- alike, and as the quotient of two numbers; a whole number over 1 comes out unchanged where it is a number of the format.
 use Rattle.theory.proofs.Prelude.{ℕ, _≤_, _<_, _+_, _^_, _*_, _-_, suc, zero, true, false, Bool, xor, [], _∷_, _∙_, ap, _≡_, sym, refl, pow-zero, mul-pos, mul-lt-mul-of-pos-right, mul-le-mul, zero-mul, eq-of-mul-eq-mul-right, arith, ℤ, pos, natAbs, negsuc, _*ℤ_, le-leb, lt-leb}
-use Rattle.arithmetic.proofs.Prelude.{all, _and_, unless, signed, isNegative, Direction, pow-add, pow-pos, pow-mono, pow-half, Format, admitted, highestPlace, Given, gives, refused, isDirection, direction, Admitted, admits, admitted-made, positional, Number, aboveZero, belowZero, member, placeOf, magnitude, value, greatest, number, delivered, checked, Checks, checked-passed, checks-end, Member, members, member-made, rounded, roundedFraction, divided, fractioned, wide-pow, never, and-left, and-made, unless-passed, unless-failed}
+use Rattle.arithmetic.proofs.Prelude.{all, _and_, unless, signed, isNegative, Direction, pow-add, pow-pos, pow-mono, pow-half, Format, admitted, highestPlace, Given, gives, refused, isDirection, direction, Admitted, admits, admitted-made, positional, Number, aboveZero, belowZero, member, placeOf, magnitude, value, greatest, number, delivered, checked, Checks, checked-passed, checks-end, Member, member-made, rounded, roundedFraction, divided, fractioned, wide-pow, never, and-left, and-made, unless-passed, unless-failed}
 use Rattle.theory.specs.Wide.{Wide}
 use Rattle.theory.proofs.Round.{round-exact}
 use Rattle.theory.proofs.Monotone.{Same, round-same}
-use Rattle.theory.proofs.Integers.{below, parts-eq, scale-above, scale-below, size-scale, size-signed, own-sign, scale-signed, times-one}
+use Rattle.theory.proofs.Integers.{below, parts-eq, scale-above, scale-below, size-scale, size-signed, own-sign, scale-signed}
 use Rattle.number.specs.Checks as checks
 use Rattle.number.proofs.Values.{number-magnitude, number-value, number-member}
 use Rattle.arithmetic.specs.Outcomes.{Outcome}
@@ -123,10 +123,11 @@ module _ (f : Format) (d : ℕ) where
       )))
 
 -- ---- n over m is the quotient of n and m, where both are numbers of the format
--- x is the whole number z: x units are z / β ^ Emin
+-- x is the whole number z: x units are z / β ^ Emin, and 0 is plus zero
 pub record Whole (f : Format) (x : Number) (z : ℤ) : Type 0 where
   pub member : member f x ≡ true
   pub value : value f x *ℤ pos (f .base ^ aboveZero (f .emin)) ≡ z *ℤ pos (f .base ^ belowZero (f .emin))
+  pub zero-plus : x .significand ≡ 0 → x .negative ≡ false
 
 module _ {f : Format} (ok : Admitted f) where
   unit-above : 1 ≤ f .base ^ aboveZero (f .emin)
@@ -150,9 +151,8 @@ module _ {f : Format} (ok : Admitted f) where
   whole-sign : {x : Number} {z : ℤ} → Whole f x z → isNegative z ≡ x .negative
   unfolding value
   whole-sign {x} {z} w =
-      let zero-plus : magnitude f x ≡ 0 → x .negative ≡ false = λ e. members x ok (w .member) .zero-sign (no-significand ok x e) in
       sym (same-sign (value f x) z (f .base ^ belowZero (f .emin)) (f .base ^ aboveZero (f .emin)) unit-below unit-above (w .value))
-      ∙ signed-sign (x .negative) (magnitude f x) zero-plus
+      ∙ signed-sign (x .negative) (magnitude f x) (λ e. w .zero-plus (no-significand ok x e))
 
   whole-some : {x : Number} {m : ℕ} → Whole f x (pos m) → 1 ≤ m → 1 ≤ x .significand
   whole-some {x} {m} w h = by (x .significand) refl
@@ -230,20 +230,19 @@ module _ {f : Format} (ok : Admitted f) (low : aboveZero (f .emin) ≡ 0) (d : �
   too-large n w l = whole-delivered n w ∙ unless-failed _ _ (lt-leb _ _ l)
 
   pub unchanged : (n : ℤ) → Wide (f .base) (f .digits) (over f n) → over f n ≤ greatest f → Unchanged f n (fractioned f d n 1)
-  unfolding delivered
+  unfolding delivered number
   unchanged n w l =
       let x : Number = number f (isNegative n) (over f n) in
       let unit : ℕ = f .base ^ belowZero (f .emin) in
       let i : Member f x = number-member ok w (isNegative n) l in
       let units : value f x ≡ n *ℤ pos unit =
       number-value ok w (isNegative n) ∙ sym (scale-signed (isNegative n) (natAbs n) unit) ∙ ap (λ (z : ℤ). z *ℤ pos unit) (own-sign n) in
-      let whole : Whole f x n = record { member = member-made x ok i; value = rw (low, pow-zero) (times-one (value f x) ∙ units) } in
       record {
         number = x;
         is = whole-delivered n w ∙ unless-passed _ _ (le-leb _ _ l);
         member = member-made x ok i;
         value = units;
-        sign = sym (whole-sign ok whole);
+        sign = refl;
         size = plain-size n i (number-magnitude ok w (isNegative n));
       }
 

@@ -8,6 +8,8 @@ pub mod Results
 pub mod Calls
 pub mod Algebra
 pub mod Enclosure
+-- the signs of results, zeros among them
+pub mod ZeroLaws
 pub mod FractionLaws
 -- what the marks say
 pub mod MarkLaws

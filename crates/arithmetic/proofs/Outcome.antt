@@ -2,14 +2,16 @@
 -- refusal 5 is given exactly where the rounded magnitude is above the greatest number. An exact result that is a number of the
 -- format is given as it is, in every direction.
 use Rattle.theory.proofs.Prelude.{ℕ, _≤_, _<_, _*_, true, false, Bool, ⊎-elim, _∙_, ap, _≡_, sym, refl, pow-zero, lt-of-mul-lt-mul-right, arith, leb, ℤ, natAbs, le-leb, leb-true, leb-false}
-use Rattle.arithmetic.proofs.Prelude.{unless, Direction, signed, isNegative, roundZ, Format, Given, gives, refused, Admitted, positional, gives-same, Number, member, magnitude, value, greatest, number, delivered, Member, member-made, rounded, roundedZ, unless-passed, wide-pow, size-signed, own-sign}
+use Rattle.arithmetic.proofs.Prelude.{unless, Direction, signed, isNegative, roundZ, Format, Given, gives, refused, Admitted, positional, gives-same, Number, member, magnitude, value, greatest, number, delivered, Member, member-made, rounded, roundedZ, unless-passed, wide-pow, size-signed}
+use Rattle.theory.specs.Signed.{signOr}
+use Rattle.theory.proofs.Integers.{either-sign, sign-or}
 use Rattle.theory.specs.Round.{round}
 use Rattle.theory.specs.declared.Direction.the-variants.{TowardZero}
 use Rattle.theory.specs.Neighbours.{lowerQ, upperQ}
 use Rattle.theory.proofs.Neighbours.{lowerQ-le, upperQ-least}
 use Rattle.theory.proofs.Round.{round-wide, round-exact, round-cases}
 use Rattle.theory.proofs.Signed.{roundZ-size, roundZ-signed, toward-zero-size}
-use Rattle.number.proofs.Values.{member-wide, member-greatest, number-same, number-of, own-sign as own-record, number-member, number-value}
+use Rattle.number.proofs.Values.{member-wide, member-greatest, number-same, number-of, number-member, number-value}
 use Rattle.arithmetic.specs.Outcomes.{RoundedNumber, Outcome, given, too-large}
 
 module _ {f : Format} {d : Direction} {N : ℤ} {D : ℕ} where
@@ -53,25 +55,26 @@ module _ {f : Format} (a : Admitted f) (d : Direction) where
           })
       by false h = let l : greatest f < v = leb-false _ _ h in too-large (omega (arith, size))
 
-  pub roundedZ-outcome : (z : ℤ) → Outcome f d z 1 (roundedZ f d z)
+  pub roundedZ-outcome : (none : Bool) (z : ℤ) → Outcome f d z 1 (roundedZ f d none z)
   unfolding roundedZ
-  roundedZ-outcome z = rw (own-sign z) at (rounded-outcome (isNegative z) (natAbs z) {D = 1} (omega arith))
+  roundedZ-outcome none z = rw (either-sign none z) at (rounded-outcome (signOr none z) (natAbs z) {D = 1} (omega arith))
 
   -- an exact result that is the number x, with x's sign
   pub rounded-exact : {x : Number} → Member f x → (negative : Bool) (n : ℕ) {D : ℕ} → 1 ≤ D → n ≡ magnitude f x * D → signed negative (magnitude f x) ≡ value f x
-      → rounded f d negative n D ≡ gives x
+      → (magnitude f x ≡ 0 → negative ≡ x .negative) → rounded f d negative n D ≡ gives x
   unfolding rounded delivered value
-  rounded-exact {x} i negative n hD e s =
+  rounded-exact {x} i negative n hD e s z =
       let size = round-exact (positional a) n hD d negative (magnitude f x) (member-wide a i) e in
       let same : number f negative (magnitude f x) ≡ x =
-      number-same f negative (x .negative) (magnitude f x) (magnitude f x) s ∙ number-of a i (x .negative) ∙ own-record a i in
+      number-same f negative (x .negative) (magnitude f x) (magnitude f x) s z ∙ number-of a i (x .negative) in
       rw size (unless-passed _ _ (le-leb _ _ (member-greatest a i)) ∙ ap gives same)
 
-  pub roundedZ-exact : {x : Number} → Member f x → (z : ℤ) → z ≡ value f x → roundedZ f d z ≡ gives x
+  pub roundedZ-exact : {x : Number} → Member f x → (none : Bool) (z : ℤ) → z ≡ value f x → (magnitude f x ≡ 0 → none ≡ x .negative) → roundedZ f d none z ≡ gives x
   unfolding roundedZ value
-  roundedZ-exact {x} i z e =
+  roundedZ-exact {x} i none z e n =
       let size : natAbs z ≡ magnitude f x = ap natAbs e ∙ size-signed (x .negative) (magnitude f x) in
-      rounded-exact i (isNegative z) (natAbs z) (omega arith) (omega arith) (ap (signed (isNegative z)) (sym size) ∙ own-sign z ∙ e)
+      rounded-exact i (signOr none z) (natAbs z) (omega arith) (omega arith) (ap (signed (signOr none z)) (sym size) ∙ either-sign none z ∙ e)
+      (λ m. ap (signOr none) e ∙ sign-or none (x .negative) (magnitude f x) (λ _. sym (n m)))
 
 -- ---- a result below the smallest number, which is one unit: zero or the smallest number, as the direction says; toward zero it is zero
 lower-zero : {f : Format} → Admitted f → (n : ℕ) {D : ℕ} → 1 ≤ D → n < D → lowerQ (f .base) (f .digits) n D < 1

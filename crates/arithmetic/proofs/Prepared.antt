@@ -1,8 +1,15 @@
 -- From a prepared format to the wide format and back: a number of the format is an operand there, and a result that comes back
 -- is the exact value, rounded and delivered.
-use Rattle.theory.proofs.Prelude.{w32, SFits, toZ, ofZ, ℕ, _≤_, _<_, _+_, _^_, _*_, suc, zero, true, false, Bool, cond, not, xor, _∙_, ap, _≡_, sym, refl, ap₂, mul-pos, arith, ℤ, pos, _+ℤ_, natAbs, _-ℤ_, negsuc, negℤ, _*ℤ_, +ℤ-comm, leb, ltZ, ne-eqb, eq-eqb}
+use Rattle.theory.proofs.Prelude.{w32, SFits, toZ, ofZ, ℕ, _≤_, _<_, _+_, _^_, _*_, suc, zero, true, false, Bool, cond, not, xor, _∙_, ap, _≡_, sym, refl, ap₂, pow-zero, zero-mul, mul-pos, arith, eqb, ℤ, pos, _+ℤ_, natAbs, _-ℤ_, negsuc, negℤ, _*ℤ_, +ℤ-comm, leb, ltZ, ne-eqb, eq-eqb}
 use Rattle.arithmetic.proofs.Prelude.{back, Direction, mark, unless, signed, isNegative, roundZ, pow-pos, Format, Prepared, Given, gives, refused, refusedAt, Number, Usable, Operands, aboveZero, belowZero, member, placeOf, magnitude, value, greatest, number, delivered, Member, members, member-made, known, Wide, Rounding, rounded, roundedZ, roundedProduct, roundedQuotient, roundedFraction, Rounded, above, below, size-parts, diff-parts, own-sign, scale-signed, member-canonical, member-highest, highest-most, delivered-same, number-of, number-value, signed-member, negated-value}
 use Rattle.theory.specs.declared.Mark.{Mark}
+use Rattle.theory.specs.Signed.{signOr}
+use Rattle.theory.specs.Round.{round}
+use Rattle.theory.proofs.Integers.{no-sign, either-sign}
+use Rattle.theory.proofs.Wide.{wide-pow}
+use Rattle.theory.proofs.Round.{round-exact}
+use Rattle.theory.proofs.Monotone.{round-mono}
+use Rattle.theory.proofs.Signed.{roundZ-signed}
 use Rattle.theory.specs.Wide.{Canonical, Wide as WideN}
 use Rattle.format.specs.Formats.{Scaled, scaleOf}
 use Rattle.format.proofs.Signed.{Upto, apart, lt-true, lt-false}
@@ -13,7 +20,8 @@ use Rattle.wide.specs.Operand.{Bounded, sizeOf, valueOf}
 use Rattle.wide.specs.Sum.{RoundsZ}
 use Rattle.wide.proofs.Results.{sum-value}
 use Rattle.wide.proofs.Signs.{signed-times}
-use Rattle.arithmetic.specs.Operands.{wideOf}
+use Rattle.arithmetic.specs.Operands.{wideOf, zeroSigned}
+use Rattle.arithmetic.specs.Operations.{zeroSign}
 use Rattle.arithmetic.specs.Marked.{withoutMark, withMark, marked, markedSum, markedProduct, markedQuotient, markedFraction}
 
 -- ---- the parts of Emin
@@ -166,19 +174,57 @@ module _ {q : Prepared} (u : Usable q) where
       (h .marked ∙ ap (λ (s : Bool). mark (signed s (sizeOf (q .format .base) (r .wide))) (signed negative N) D) (sym (h .sign)))
       (ap₂ (delivered (q .format)) (h .sign) (h .size))
 
-  sum-delivers : {d : Direction} (z : ℤ) {r : Rounding} → RoundsZ (q .format .base) (q .format .digits) d z r
-      → Delivers (q .format) r (marked (q .format) z 1 (roundedZ (q .format) d z))
-  unfolding roundedZ rounded roundZ
-  sum-delivers z {r} h =
-      delivers (known u .admits) (h .rounds .canonical) z 1
-      (h .rounds .marked ∙ ap (λ (v : ℤ). mark (valueOf (q .format .base) (r .wide)) v 1) (sym (h .sign)))
-      (delivered-same (q .format) (r .wide .negative) (isNegative z) (sizeOf (q .format .base) (r .wide)) _ (sum-value (positional (known u .admits)) z h))
+  -- a whole number other than 0 is not rounded to zero
+  rounds-some : (d : Direction) (s : Bool) (n : ℕ) → 1 ≤ n → 1 ≤ round (q .format .base) (q .format .digits) d s n 1
+  rounds-some d s n h =
+      let ok = positional (known u .admits) in
+      let one = round-exact ok 1 {D = 1} (omega arith) d s 1 (rw (← pow-zero (q .format .base)) (wide-pow ok 0)) (omega arith) in
+      omega (arith, one, round-mono ok d s {N = 1} {D = 1} {N′ = n} {D′ = 1} (record { divisor = omega arith; divisor′ = omega arith; cross = omega arith }))
+
+  no-significand-of : (x : Wide) → sizeOf (q .format .base) x ≡ 0 → x .significand ≡ 0
+  no-significand-of x e = by (x .significand) refl
+    where
+      by : (m : ℕ) → x .significand ≡ m → x .significand ≡ 0
+      by zero h = h
+      by (suc m) h = absurd (let k : 1 ≤ x .significand = omega arith in omega (arith, mul-pos k (pow-pos (known u .admits .base-low) (x .place))))
+
+  -- a sum whose zero has the sign that is handed over
+  module _ {d : Direction} (none : Bool) (z : ℤ) {r : Rounding} (h : RoundsZ (q .format .base) (q .format .digits) d z r) where
+    same-value : valueOf (q .format .base) (zeroSigned none r .wide) ≡ valueOf (q .format .base) (r .wide)
+    same-value = by (r .wide .significand)
+      where
+        by : (m : ℕ) → signed (cond (eqb m 0) none (r .wide .negative)) (m * q .format .base ^ r .wide .place) ≡ signed (r .wide .negative) (m * q .format .base ^ r .wide .place)
+        by zero = rw (zero-mul (q .format .base ^ r .wide .place)) (no-sign none (r .wide .negative))
+        by (suc m) = rw (ne-eqb (suc m) 0 (λ k. omega arith))
+
+    rounded-value : valueOf (q .format .base) (zeroSigned none r .wide) ≡ signed (signOr none z) (round (q .format .base) (q .format .digits) d (signOr none z) (natAbs z) 1)
+    rounded-value =
+        let ok = positional (known u .admits) in
+        same-value ∙ sum-value ok z h ∙ ap (λ (v : ℤ). roundZ (q .format .base) (q .format .digits) d v 1) (sym (either-sign none z)) ∙ roundZ-signed ok (omega arith) d (signOr none z) (natAbs z)
+
+    zero-signed : sizeOf (q .format .base) (r .wide) ≡ 0 → zeroSigned none r .wide .negative ≡ signOr none z
+    zero-signed e = rw (eq-eqb (r .wide .significand) 0 (no-significand-of (r .wide) e)) (by z refl)
+      where
+        some : {n : ℕ} → natAbs z ≡ suc n → ⊥
+        some k = omega (arith, h .rounds .size, rounds-some d (r .wide .negative) (natAbs z) (omega arith))
+
+        by : (v : ℤ) → z ≡ v → none ≡ signOr none v
+        by (pos zero) k = refl
+        by (pos (suc n)) k = absurd (some (ap natAbs k))
+        by (negsuc n) k = absurd (some (ap natAbs k))
+
+    sum-delivers : Delivers (q .format) (zeroSigned none r) (marked (q .format) z 1 (roundedZ (q .format) d none z))
+    unfolding roundedZ rounded
+    sum-delivers =
+        delivers (known u .admits) (h .rounds .canonical) z 1
+        (h .rounds .marked ∙ ap₂ (λ (v w : ℤ). mark v w 1) (sym same-value) (sym (h .sign)))
+        (delivered-same (q .format) (zeroSigned none r .wide .negative) (signOr none z) (sizeOf (q .format .base) (r .wide)) _ rounded-value zero-signed)
 
   module _ (d : Direction) (a b : Number) {x y : Wide} (ex : x ≡ wideOf (q .format) a) (ey : y ≡ wideOf (q .format) b) where
     pub add-delivers : {r : Rounding} → RoundsZ (q .scale .base) (q .scale .digits) d (valueOf (q .scale .base) x +ℤ valueOf (q .scale .base) y) r
-        → Delivers (q .format) r (markedSum (q .format) d a b)
+        → Delivers (q .format) (zeroSigned (zeroSign d (a .negative) (b .negative)) r) (markedSum (q .format) d a b)
     unfolding value magnitude
-    add-delivers h = sum-delivers _ (rw (ex, ey, scale-is) at h)
+    add-delivers h = sum-delivers _ _ (rw (ex, ey, scale-is) at h)
 
     module _ {up down : ℕ} {r : Rounding} where
       pub product-delivers : Parts (q .format) up down
@@ -200,19 +246,27 @@ module _ {q : Prepared} (u : Usable q) where
       rw (denominator-some (q .format) d n some, ← fraction-signed (q .format) n) (rounds-delivers (rw (es, ek, e .down-is, e .up-is, scale-is) at h))
 
 -- ---- two numbers in the order of their exponents
+pub zero-swap : (d : Direction) (s t : Bool) → zeroSign d s t ≡ zeroSign d t s
+zero-swap d true true = refl
+zero-swap d true false = refl
+zero-swap d false true = refl
+zero-swap d false false = refl
+
 pub record Aligned (q : Prepared) (a b high low : Number) : Type 0 where
   pub operands : Operands q high low
   pub order : Upto (low .exponent) (high .exponent)
-  pub sum : value (q .format) high +ℤ value (q .format) low ≡ value (q .format) a +ℤ value (q .format) b
+  pub zero : (d : Direction) → zeroSign d (high .negative) (low .negative) ≡ zeroSign d (a .negative) (b .negative)
+  pub sum : (d : Direction) → markedSum (q .format) d high low ≡ markedSum (q .format) d a b
 
 pub aligned : {q : Prepared} {a b : Number} → Operands q a b → (t : Bool) → ltZ (a .exponent) (b .exponent) ≡ t → Aligned q a b (cond t b a) (cond t a b)
 aligned {q} {a} {b} o true e =
     record {
       operands = record { usable = o .usable; first = o .second; second = o .first };
       order = let l = lt-true (a .exponent) (b .exponent) e in omega arith;
-      sum = +ℤ-comm (value (q .format) b) (value (q .format) a);
+      zero = λ d. zero-swap d (b .negative) (a .negative);
+      sum = λ d. rw (zero-swap d (b .negative) (a .negative), +ℤ-comm (value (q .format) b) (value (q .format) a));
     }
-aligned {q} {a} {b} o false e = record { operands = o; order = lt-false (a .exponent) (b .exponent) e; sum = refl }
+aligned {q} {a} {b} o false e = record { operands = o; order = lt-false (a .exponent) (b .exponent) e; zero = λ d. refl; sum = λ d. refl }
 
 -- the place of the higher one is that of the lower one and the distance between their exponents
 pub place-apart : {f : Format} {high low : Number} → Member f high → Member f low → Upto (low .exponent) (high .exponent)

@@ -6,10 +6,10 @@ use Rattle.arithmetic.proofs.Outcome.{outcome-given, rounded-outcome, r
 
 module _ {f : Format} (ok : Admitted f) (d : Direction) (a b : Number) {x : Number} where
   pub sum-member : roundedSum f d a b ≡ gives x → member f x ≡ true
-  sum-member e = outcome-given (roundedZ-outcome ok d _) e .member
+  sum-member e = outcome-given (roundedZ-outcome ok d _ _) e .member
 
   pub difference-member : roundedDifference f d a b ≡ gives x → member f x ≡ true
-  difference-member e = outcome-given (roundedZ-outcome ok d _) e .member
+  difference-member e = outcome-given (roundedZ-outcome ok d _ _) e .member
 
   pub product-member : roundedProduct f d a b ≡ gives x → member f x ≡ true
   unfolding roundedProduct

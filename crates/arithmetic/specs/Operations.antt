@@ -1,13 +1,14 @@
 -- The four operations and the fraction: the checks of document 01 in their order, then the exact result in units of β ^ Emin, rounded
 -- once.
 use Prim.Native.Nat.{ℕ, _*_, _^_}
-use mathlib.Core.Bool.{Bool, xor, cond}
+use mathlib.Core.Bool.{Bool, true, false, not, xor, cond, Bool·beq}
 use mathlib.Core.List.{[], _∷_}
 use lib.Dec.{eqb}
 use lib.IntN.{ℤ, natAbs, _+ℤ_, _-ℤ_}
 use Rattle.theory.specs.Round.{round}
 use Rattle.theory.specs.declared.Direction.{Direction}
-use Rattle.theory.specs.Signed.{isNegative}
+use Rattle.theory.specs.declared.Direction.the-variants.{NearestEven, NearestAway, TowardZero, Upward, Downward}
+use Rattle.theory.specs.Signed.{isNegative, signOr}
 use Rattle.format.specs.declared.Format.{Format}
 use Rattle.format.specs.Directions.{direction}
 use Rattle.format.specs.Given.{Given, refused}
@@ -21,16 +22,28 @@ use Rattle.number.specs.Checks.{checked}
 unfoldable pub rounded : Format → Direction → (negative : Bool) (N D : ℕ) → Given Number
 rounded f d negative N D = delivered f negative (round (f .base) (f .digits) d negative N D)
 
--- z units
-unfoldable pub roundedZ : Format → Direction → ℤ → Given Number
-roundedZ f d z = rounded f d (isNegative z) (natAbs z) 1
+-- z units; where they are none, zero has the sign that is handed over
+unfoldable pub roundedZ : Format → Direction → (none : Bool) → ℤ → Given Number
+roundedZ f d none z = rounded f d (signOr none z) (natAbs z) 1
 
 -- ---- of two numbers of the format
-abbrev pub roundedSum : Format → Direction → (a b : Number) → Given Number
-roundedSum f d a b = roundedZ f d (value f a +ℤ value f b)
+-- the sign of an exact zero sum (IEEE 754, clause 6.3): that of both operands, if they have one sign; else plus, in direction 4 minus
+abbrev pub isDownward : Direction → Bool
+isDownward NearestEven = false
+isDownward NearestAway = false
+isDownward TowardZero = false
+isDownward Upward = false
+isDownward Downward = true
 
+abbrev pub zeroSign : Direction → (s t : Bool) → Bool
+zeroSign d s t = cond (Bool·beq s t) s (isDownward d)
+
+abbrev pub roundedSum : Format → Direction → (a b : Number) → Given Number
+roundedSum f d a b = roundedZ f d (zeroSign d (a .negative) (b .negative)) (value f a +ℤ value f b)
+
+-- the sum with the second number negated
 abbrev pub roundedDifference : Format → Direction → (a b : Number) → Given Number
-roundedDifference f d a b = roundedZ f d (value f a -ℤ value f b)
+roundedDifference f d a b = roundedZ f d (zeroSign d (a .negative) (not (b .negative))) (value f a -ℤ value f b)
 
 -- the product of v and w units is v × w × β ^ Emin units
 unfoldable pub roundedProduct : Format → Direction → (a b : Number) → Given Number

@@ -14,6 +14,7 @@ use number::NumberAnswer;
 use number::checks::with_direction;
 use number::checks::with_number;
 use number::signs::with_sign;
+use rounding::Rounding;
 use rounding::Wide;
 use theory::Direction;
 use wide::sum::aligned_sum;
@@ -21,7 +22,8 @@ ghost use mathlib.Core.Path.{_≡_};
 ghost use mathlib.Core.Bool.{cond};
 ghost use Rattle.number.specs.Answers.{numberGiven};
 ghost use Rattle.number.specs.Checks.{Operands};
-ghost use Rattle.arithmetic.specs.Operations.{roundedSum, roundedDifference};
+ghost use Rattle.arithmetic.specs.Operations.{roundedSum, roundedDifference, zeroSign};
+ghost use Rattle.arithmetic.specs.Operands.{zeroSigned};
 ghost use Rattle.arithmetic.specs.Marked.{roundedGiven, markedSum, markedDifference, sumAnswer, differenceAnswer};
 
 // One of two numbers, selected field by field: which of them has the higher exponent is not predictable.
@@ -42,6 +44,43 @@ fn select(test: bool, yes: Number, no: Number) -> Number
     }
 }
 
+// The sign of an exact zero sum of numbers with these signs.
+fn zero_sign(direction: Direction, a: bool, b: bool) -> bool
+    ensures { λ r. ⌜ r ≡ zeroSign direction a b ⌝ }
+{
+    if a == b {
+        return a;
+    }
+    match direction {
+        Direction::NearestEven => false,
+        Direction::NearestAway => false,
+        Direction::TowardZero => false,
+        Direction::Upward => false,
+        Direction::Downward => true,
+    }
+}
+
+// A result; if it is zero, with this sign.
+fn with_zero_sign(result: Rounding, none: bool) -> Rounding
+    ensures { λ r. ⌜ r ≡ zeroSigned none result ⌝ }
+{
+    let wide = result.wide;
+    let mark = result.mark;
+    let negative = if wide.significand == 0 {
+        none
+    } else {
+        wide.negative
+    };
+    Rounding {
+        wide: Wide {
+            negative: negative,
+            significand: wide.significand,
+            place: wide.place,
+        },
+        mark: mark,
+    }
+}
+
 // a + b, in a format that was prepared. The alignment distance is the difference of the two exponents. Refuses 5.
 pub fn marked_sum(prepared: Prepared, direction: Direction, a: Number, b: Number) -> RoundedAnswer
     requires { ⌜ Operands prepared a b ⌝ }
@@ -58,7 +97,9 @@ pub fn marked_sum(prepared: Prepared, direction: Direction, a: Number, b: Number
         place: y.place + gap,
     };
     let scale = prepared.scale;
-    deliver_wide(prepared, aligned_sum(scale, direction, x, y, gap))
+    let sum = aligned_sum(scale, direction, x, y, gap);
+    let none = zero_sign(direction, a.negative, b.negative);
+    deliver_wide(prepared, with_zero_sign(sum, none))
 }
 
 // a - b, in a format that was prepared. Refuses 5.

@@ -1,6 +1,6 @@
 -- The values of patterns are in the order of the patterns, taken as a sign and a number of 31 bits: different patterns have
 -- different values, but for those of plus and minus zero.
-use Rattle.theory.proofs.Prelude.{ℕ, _≤_, _<_, _+_, _^_, _*_, _-_, suc, zero, _%_, true, false, Bool, cond, ⊎-elim, _≢_, _∙_, ap, _≡_, sym, refl, ap₂, decLe, mul-le-mul-right, mul-le-mul-left, mul-lt-mul-of-pos-right, eq-or-lt-of-le, arith, eqb, ℤ, pos, negℤ, ltZ, ne-eqb}
+use Rattle.theory.proofs.Prelude.{ℕ, _≤_, _<_, _+_, _^_, _*_, _-_, suc, zero, _%_, true, false, Bool, cond, ⊎-elim, _∙_, ap, _≡_, sym, refl, ap₂, decLe, mul-le-mul-right, mul-le-mul-left, mul-lt-mul-of-pos-right, eq-or-lt-of-le, arith, eqb, ℤ, pos, negℤ, ltZ, ne-eqb}
 use Rattle.theory.specs.Signed.{signed}
 use Rattle.theory.proofs.Powers.{pow-pos, pow-half}
 use Rattle.theory.proofs.Integers.{above, below, neg-above, neg-below}
@@ -8,7 +8,7 @@ use Rattle.format.specs.Published.{binary32}
 use Rattle.format.proofs.Signed.{Upto, Under, lt-true, lt-false, make-lt, make-ge}
 use Rattle.number.specs.declared.Number.{Number}
 use Rattle.format.specs.Given.{gives}
-use Rattle.number.specs.Numbers.{value}
+use Rattle.number.specs.Numbers.{value, magnitude}
 use Rattle.number.proofs.Values.{member-unique}
 use Rattle.binary32.specs.Patterns.{signOf, fieldOf, fractionOf, magnitudeRead, patternRead, patternWritten}
 use Rattle.binary32.proofs.Fields.{binary32-limits}
@@ -123,8 +123,8 @@ module _ (a b : ℕ) {x y : Number} (r : patternRead a ≡ gives x) (q : pattern
   read-order = ap₂ ltZ (read-value a r) (read-value b q) ∙ signed-order (magnitudes-ordered a b) (signOf a) (signOf b)
 
   -- patterns with one value are one, but for those of plus and minus zero
-  pub read-unique : a < 2 ^ 32 → b < 2 ^ 32 → a ≢ 2 ^ 31 → b ≢ 2 ^ 31 → value binary32 x ≡ value binary32 y → a ≡ b
-  read-unique ha hb na nb e =
-      let same : x ≡ y = member-unique binary32-limits (read-inside (reads a r)) (read-inside (reads b q)) e in
-      let one : gives a ≡ gives b = sym (read-written a ha na r) ∙ ap patternWritten same ∙ read-written b hb nb q in
+  pub read-unique : a < 2 ^ 32 → b < 2 ^ 32 → value binary32 x ≡ value binary32 y → (magnitude binary32 x ≡ 0 → x .negative ≡ y .negative) → a ≡ b
+  read-unique ha hb e z =
+      let same : x ≡ y = member-unique binary32-limits (read-inside (reads a r)) (read-inside (reads b q)) e z in
+      let one : gives a ≡ gives b = sym (read-written a ha r) ∙ ap patternWritten same ∙ read-written b hb q in
       cc

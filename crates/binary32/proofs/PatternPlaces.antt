@@ -28,7 +28,7 @@ normal-magnitude k {E} {F} e f =
 place-pattern : (k : ℕ) {M : ℕ} → k < 2 ^ 31 → magnitudeRead k ≡ M → patternOf (number binary32 false M) ≡ k
 unfolding numberRead
 place-pattern k l e =
-    ap₂ (λ (s : Bool) (m : ℕ). patternOf (number binary32 s m)) (sym (lt-leb (2 ^ 31) k l)) (sym e) ∙ pattern-back k (omega arith) (λ z. omega arith)
+    ap₂ (λ (s : Bool) (m : ℕ). patternOf (number binary32 s m)) (sym (lt-leb (2 ^ 31) k l)) (sym e) ∙ pattern-back k (omega arith)
 
 module _ (n : ℕ) (h : finite n ≡ true) where
   inside : Member binary32 (numberRead n)

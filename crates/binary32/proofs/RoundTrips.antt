@@ -1,6 +1,6 @@
--- What is read is in format 2, every finite pattern but 80000000 (hexadecimal) comes back when it is read and written, and every
--- number of format 2 when it is written and read.
-use Rattle.theory.proofs.Prelude.{ℕ, _≤_, _<_, _+_, _^_, _*_, _-_, suc, zero, true, false, Bool, cond, not, _&&_, [], _∷_, ⊎-elim, _≢_, _∙_, ap, _≡_, refl, ap₂, subst, decLe, arith, eqb, ne-eqb, le-leb, leb-true, lt-leb, leb-false, eqb-true}
+-- What is read is in format 2, every finite pattern comes back when it is read and written, and every number of format 2 when it is
+-- written and read.
+use Rattle.theory.proofs.Prelude.{ℕ, _≤_, _<_, _+_, _^_, _*_, _-_, suc, zero, true, false, Bool, cond, not, [], _∷_, ⊎-elim, _∙_, ap, _≡_, refl, ap₂, subst, decLe, arith, eqb, ne-eqb, le-leb, leb-true, lt-leb, leb-false}
 use Rattle.theory.specs.Lists.{all}
 use Rattle.theory.specs.Tests.{_and_, unless}
 use Rattle.theory.specs.Wide.{Wide}
@@ -13,7 +13,7 @@ use Rattle.format.specs.Given.{gives, refused}
 use Rattle.number.specs.Numbers.{member, placeOf, magnitude, value, number, greatest}
 use Rattle.number.specs.Checks.{checked}
 use Rattle.number.proofs.Membership.{Member, members, member-made}
-use Rattle.number.proofs.Values.{written, place-there, canonical-within, member-canonical, member-highest, number-of, own-sign, number-magnitude, number-value, number-member}
+use Rattle.number.proofs.Values.{written, place-there, canonical-within, member-canonical, member-highest, number-of, number-magnitude, number-value, number-member}
 use Rattle.number.proofs.CheckLaws.{checked-passed}
 use Rattle.binary32.specs.Patterns.{signOf, fieldOf, fractionOf, finite, magnitudeRead, numberRead, patternRead, patternOf, patternWritten}
 use Rattle.binary32.proofs.Fields.{binary32-admitted, binary32-limits, significandOf, significand-canonical, magnitude-is, finite-field, number-read, binary-24}
@@ -62,7 +62,7 @@ pub read-magnitude : (n : ℕ) {x : Number} → patternRead n ≡ gives x → ma
 unfolding numberRead
 read-magnitude n h = ap (magnitude binary32) (reads n h .is) ∙ number-magnitude binary32-limits (read-wide n) (signOf n)
 
-pub read-sign : (n : ℕ) {x : Number} → patternRead n ≡ gives x → x .negative ≡ not (eqb (magnitudeRead n) 0) && signOf n
+pub read-sign : (n : ℕ) {x : Number} → patternRead n ≡ gives x → x .negative ≡ signOf n
 unfolding numberRead number
 read-sign n h = ap (λ (y : Number). y .negative) (reads n h .is)
 
@@ -77,7 +77,7 @@ unfolding patternWritten checked all unless _and_
 written-refused x h = rw (binary32-admitted, h, _and_)
 
 -- the pattern of a significand at a place
-pattern-at : (s : Bool) (m k : ℕ) → patternOf (written binary32 s m k) ≡ cond (not (eqb m 0) && s) (2 ^ 31) 0 + k * 2 ^ 23 + m
+pattern-at : (s : Bool) (m k : ℕ) → patternOf (written binary32 s m k) ≡ cond s (2 ^ 31) 0 + k * 2 ^ 23 + m
 unfolding patternOf
 pattern-at s m k = rw (place-there _ k)
 
@@ -87,24 +87,21 @@ joined zero F = omega arith
 joined (suc E) F = rw (ne-eqb (suc E) 0 (λ e. omega arith)) (omega arith)
 
 -- ---- read and written
-module _ (n : ℕ) (h : n < 2 ^ 32) (not-minus-zero : n ≢ 2 ^ 31) where
+module _ (n : ℕ) (h : n < 2 ^ 32) where
   abbrev m : ℕ
   m = significandOf (fieldOf n) (fractionOf n)
 
   abbrev k : ℕ
   k = fieldOf n - 1
 
-  sign-back : (b t : Bool) → signOf n ≡ b → eqb m 0 ≡ t → cond (not t && b) (2 ^ 31) 0 + k * 2 ^ 23 + m ≡ n
-  sign-back true true e z =
-      absurd (not-minus-zero (omega (arith, leb-true (2 ^ 31) n e, eqb-true m 0 z, joined (fieldOf n) (fractionOf n))))
-  sign-back true false e z = omega (arith, leb-true (2 ^ 31) n e, joined (fieldOf n) (fractionOf n))
-  sign-back false true e z = omega (arith, leb-false (2 ^ 31) n e, joined (fieldOf n) (fractionOf n))
-  sign-back false false e z = omega (arith, leb-false (2 ^ 31) n e, joined (fieldOf n) (fractionOf n))
+  sign-back : (b : Bool) → signOf n ≡ b → cond b (2 ^ 31) 0 + k * 2 ^ 23 + m ≡ n
+  sign-back true e = omega (arith, leb-true (2 ^ 31) n e, joined (fieldOf n) (fractionOf n))
+  sign-back false e = omega (arith, leb-false (2 ^ 31) n e, joined (fieldOf n) (fractionOf n))
 
   pub pattern-back : patternOf (numberRead n) ≡ n
-  pattern-back = ap patternOf (number-read n) ∙ pattern-at (signOf n) m k ∙ sign-back (signOf n) (eqb m 0) refl refl
+  pattern-back = ap patternOf (number-read n) ∙ pattern-at (signOf n) m k ∙ sign-back (signOf n) refl
 
-  -- every finite pattern but that of minus zero comes back
+  -- every finite pattern comes back
   pub read-written : {x : Number} → patternRead n ≡ gives x → patternWritten x ≡ gives n
   read-written {x} r = written-made x (read-member n r) ∙ ap gives (ap patternOf (reads n r .is) ∙ pattern-back)
 
@@ -151,7 +148,7 @@ module _ (x : Number) (i : Member binary32 x) where
       → patternRead (patternOf x) ≡ gives x
   parts-back p h e =
       parts-read p h
-      ∙ ap gives (ap (number binary32 (x .negative)) e ∙ number-of binary32-limits i (x .negative) ∙ own-sign binary32-limits i)
+      ∙ ap gives (ap (number binary32 (x .negative)) e ∙ number-of binary32-limits i (x .negative))
 
   back : patternRead (patternOf x) ≡ gives x
   unfolding magnitude
@@ -168,11 +165,14 @@ module _ (x : Number) (i : Member binary32 x) where
 pub written-read : (x : Number) → member binary32 x ≡ true → patternRead (patternOf x) ≡ gives x
 written-read x h = back x (members x binary32-limits h)
 
--- ---- zero: 80000000 reads as zero, and zero is written 00000000
-pub minus-zero-read : patternRead (2 ^ 31) ≡ patternRead 0
-unfolding patternRead finite fieldOf numberRead number magnitudeRead signOf fractionOf
+-- ---- zero: 80000000 reads as minus zero, and comes back
+pub minus-zero-read : patternRead (2 ^ 31) ≡ gives (number binary32 true 0)
+unfolding patternRead finite fieldOf numberRead number magnitudeRead signOf fractionOf unless
 minus-zero-read = refl
 
 pub zero-written : patternWritten (numberRead 0) ≡ gives 0
 unfolding finite
-zero-written = read-written 0 (omega arith) (λ e. omega (arith, e)) (read-made 0 refl)
+zero-written = read-written 0 (omega arith) (read-made 0 refl)
+
+pub minus-zero-written : patternWritten (number binary32 true 0) ≡ gives (2 ^ 31)
+minus-zero-written = read-written (2 ^ 31) (omega arith) minus-zero-read

@@ -1,11 +1,9 @@
 -- The product and the quotient of finite patterns to nearest, ties to even, are those of lib.Ieee.
-use Rattle.theory.proofs.Prelude.{ℕ, _≤_, _^_, _*_, suc, zero, true, false, Bool, cond, not, xor, _&&_, _∙_, ap, _≡_, sym, refl, ap₂, mul-le-mul-right, mul-pos, zero-mul, arith, eqb, pos, ne-eqb, eqb-true}
-use native.Mathlib.Nat.{mul-zero}
+use Rattle.theory.proofs.Prelude.{ℕ, _≤_, _^_, _*_, suc, zero, true, false, Bool, cond, not, xor, _∙_, ap, _≡_, sym, refl, ap₂, mul-le-mul-right, mul-pos, arith, eqb, pos, ne-eqb}
 use lib.Ieee as ieee
 use lib.Ieee.{Float, nan, inf, fin, up, down, unlike, mul, div, ofBits}
 use lib.Ieee.Exact.{HasValue}
 use lib.Ieee.Fits.{up-pos, down-pos}
-use Rattle.theory.specs.Signed.{signed}
 use Rattle.theory.proofs.Powers.{pow-pos}
 use Rattle.format.specs.Published.{binary32}
 use Rattle.number.specs.declared.Number.{Number}
@@ -14,7 +12,7 @@ use Rattle.number.specs.Numbers.{magnitude}
 use Rattle.binary32.specs.Patterns.{signOf, magnitudeRead, patternRead}
 use Rattle.binary32.proofs.RoundTrips.{reads, read-magnitude, read-sign}
 use Rattle.binary32.proofs.Standard.{value-standard}
-use Rattle.binary32.proofs.StandardRound.{answered, nearestOf, nearest-same, Counts, Exact, round-standard}
+use Rattle.binary32.proofs.StandardRound.{answered, nearestOf, Counts, Exact, round-standard}
 
 -- ---- the exact fractions
 module _ {m u A n v B : ℕ} (a : Counts (2 ^ 149) m u A) (b : Counts (2 ^ 149) n v B) where
@@ -65,32 +63,17 @@ div-standard (fin r m e) (fin q (suc n) d) s t A B hB h k =
     quotient i j = ieee.round ieee.binary32 (unlike i j) (m * up e * down d) (suc n * up d * down e)
 
 -- ---- of patterns
--- the sign of an operand that is 0 does not count, where the result is 0 too
-zero-sign : (s : Bool) → signed s 0 ≡ pos 0
-zero-sign true = refl
-zero-sign false = refl
-
-same-sign : (s t : Bool) (A B N : ℕ) → (A ≡ 0 → N ≡ 0) → (B ≡ 0 → N ≡ 0)
-    → signed (unlike s t) N ≡ signed (xor (not (eqb A 0) && s) (not (eqb B 0) && t)) N
+alike : (s t : Bool) → unlike s t ≡ xor s t
 unfolding xor
-same-sign s t A B N a b = by (eqb A 0) (eqb B 0) refl refl
-  where
-    none : (i j : Bool) → N ≡ 0 → signed i N ≡ signed j N
-    none i j e = rw e (zero-sign i ∙ sym (zero-sign j))
-
-    by : (p q : Bool) → eqb A 0 ≡ p → eqb B 0 ≡ q → signed (unlike s t) N ≡ signed (xor (not p && s) (not q && t)) N
-    by true q e f = none (unlike s t) (xor (not true && s) (not q && t)) (a (eqb-true A 0 e))
-    by false true e f = none (unlike s t) (xor (not false && s) (not true && t)) (b (eqb-true B 0 f))
-    by false false e f = refl
+alike true true = refl
+alike true false = refl
+alike false true = refl
+alike false false = refl
 
 module _ (a b : ℕ) {x y : Number} (r : patternRead a ≡ gives x) (q : patternRead b ≡ gives y) where
   -- the signs as they are read
-  signs-read : (N : ℕ) {D : ℕ} → 1 ≤ D → (magnitudeRead a ≡ 0 → N ≡ 0) → (magnitudeRead b ≡ 0 → N ≡ 0)
-      → nearestOf (unlike (signOf a) (signOf b)) N D ≡ nearestOf (xor (x .negative) (y .negative)) N D
-  signs-read N {D} hD h k =
-      nearest-same (unlike (signOf a) (signOf b)) (xor (not (eqb (magnitudeRead a) 0) && signOf a) (not (eqb (magnitudeRead b) 0) && signOf b)) N N hD
-      (same-sign (signOf a) (signOf b) (magnitudeRead a) (magnitudeRead b) N h k)
-      ∙ ap₂ (λ (i j : Bool). nearestOf (xor i j) N D) (sym (read-sign a r)) (sym (read-sign b q))
+  signs-read : (N D : ℕ) → nearestOf (unlike (signOf a) (signOf b)) N D ≡ nearestOf (xor (x .negative) (y .negative)) N D
+  signs-read N D = ap (λ (s : Bool). nearestOf s N D) (alike (signOf a) (signOf b) ∙ ap₂ xor (sym (read-sign a r)) (sym (read-sign b q)))
 
   -- the product is that of lib.Ieee
   pub ieee-product : answered (mul ieee.binary32 (ofBits ieee.binary32 a) (ofBits ieee.binary32 b))
@@ -98,7 +81,7 @@ module _ (a b : ℕ) {x y : Number} (r : patternRead a ≡ gives x) (q : pattern
   ieee-product =
       mul-standard (ofBits ieee.binary32 a) (ofBits ieee.binary32 b) (signOf a) (signOf b) (magnitudeRead a) (magnitudeRead b)
       (value-standard a (reads a r .finite)) (value-standard b (reads b q .finite))
-      ∙ signs-read (magnitudeRead a * magnitudeRead b) (pow-pos {β = 2} (omega arith) 149) (λ e. rw e (zero-mul (magnitudeRead b))) (λ e. rw e (mul-zero (magnitudeRead a)))
+      ∙ signs-read (magnitudeRead a * magnitudeRead b) (2 ^ 149)
       ∙ ap₂ (λ (m n : ℕ). nearestOf (xor (x .negative) (y .negative)) (m * n) (2 ^ 149)) (sym (read-magnitude a r)) (sym (read-magnitude b q))
 
   -- and so is the quotient by what is not zero
@@ -108,5 +91,5 @@ module _ (a b : ℕ) {x y : Number} (r : patternRead a ≡ gives x) (q : pattern
       let positive : 1 ≤ magnitudeRead b = omega (arith, read-magnitude b q) in
       div-standard (ofBits ieee.binary32 a) (ofBits ieee.binary32 b) (signOf a) (signOf b) (magnitudeRead a) (magnitudeRead b) positive
       (value-standard a (reads a r .finite)) (value-standard b (reads b q .finite))
-      ∙ signs-read (magnitudeRead a * 2 ^ 149) positive (λ e. rw e (zero-mul (2 ^ 149))) (λ e. absurd (omega arith))
+      ∙ signs-read (magnitudeRead a * 2 ^ 149) (magnitudeRead b)
       ∙ ap₂ (λ (m n : ℕ). nearestOf (xor (x .negative) (y .negative)) (m * 2 ^ 149) n) (sym (read-magnitude a r)) (sym (read-magnitude b q))

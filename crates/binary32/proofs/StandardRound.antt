@@ -1,6 +1,6 @@
 -- The rounding of lib.Ieee, the kit's own account of IEEE 754, is the theory's to nearest with ties to even in format 2: an infinity
 -- where the rounded magnitude exceeds the greatest number, and otherwise the float that has its value.
-use Rattle.theory.proofs.Prelude.{ℕ, _≤_, _<_, _+_, _^_, _*_, _-_, suc, _%_, _/_, true, false, Bool, cond, not, _≢_, _∙_, ap, _≡_, sym, refl, subst, ℕ-discrete, mul-pos, le-antisymm, le-of-suc-le-suc, lt-of-not-le, mul-div-cancel, arith, eqb, leb, T, ℤ, ne-eqb, eq-eqb, leb-true, leb-false, le-ltb, ltb-true}
+use Rattle.theory.proofs.Prelude.{ℕ, _≤_, _<_, _+_, _^_, _*_, _-_, suc, _%_, _/_, true, false, Bool, cond, not, _≢_, _∙_, ap, _≡_, sym, refl, subst, ℕ-discrete, mul-pos, le-antisymm, le-of-suc-le-suc, lt-of-not-le, mul-div-cancel, arith, eqb, leb, T, ne-eqb, eq-eqb, leb-true, leb-false, le-ltb, ltb-true}
 use Prim.Native.Nat.{compare, Ordering, Ordering·lt, Ordering·eq, Ordering·gt}
 use native.Mathlib.Nat.{lt-of-le-of-lt, not-le-of-lt}
 use lib.Dec.{isLe, isEq, leb→le, nleb→lt, eqb→eq}
@@ -16,22 +16,20 @@ use Rattle.theory.specs.Wide.{Wide}
 use Rattle.theory.specs.Round.{chosen, takesUpper, round}
 use Rattle.theory.specs.declared.Direction.the-variants.{NearestEven}
 use Rattle.theory.specs.declared.Location.{Location}
-use Rattle.theory.specs.Signed.{signed, roundZ}
 use Rattle.theory.proofs.Tests.{unless-passed, unless-failed}
 use Rattle.theory.proofs.Powers.{pow-pos, pow-mono}
 use Rattle.theory.proofs.Place.{step-pos, place-le, place-fits}
 use Rattle.theory.proofs.Canonical.{canonical-of, canonical-value}
 use Rattle.theory.proofs.Round.{Located, at-lower, under, middle, over, location-found, round-wide}
 use Rattle.theory.proofs.Division.{divided, round-divided}
-use Rattle.theory.proofs.Signed.{roundZ-signed}
 use Rattle.format.specs.Published.{binary32}
 use Rattle.number.specs.declared.Number.{Number}
 use Rattle.format.specs.Given.{Given, gives, refused}
 use Rattle.number.specs.Numbers.{number, greatest, delivered}
-use Rattle.number.proofs.Values.{canonical-within, delivered-same}
+use Rattle.number.proofs.Values.{canonical-within}
 use Rattle.binary32.proofs.Fields.{binary32-limits, binary-24}
 
--- the answer that a float of lib.Ieee stands for: zero is plus, and an infinity is a result too large
+-- the answer that a float of lib.Ieee stands for; an infinity is a result too large
 unfoldable pub answered : Float → Given Number
 answered nan = refused 9
 answered (inf s) = refused 5
@@ -180,9 +178,3 @@ module _ (s : Bool) {num den N D : ℕ} (e : Exact num den N D) where
       by false l =
           ap answered (round-infinite (leb-false (nearestRound s N D) (greatest binary32) l))
           ∙ sym (unless-failed (refused 5) (gives (number binary32 s (nearestRound s N D))) l)
-
--- ---- the answer depends on the exact value alone, and not on a sign of zero
-pub nearest-same : (s t : Bool) (m n : ℕ) {D : ℕ} → 1 ≤ D → signed s m ≡ signed t n → nearestOf s m D ≡ nearestOf t n D
-nearest-same s t m n {D} hD e =
-    delivered-same binary32 s t (nearestRound s m D) (nearestRound t n D)
-    (sym (roundZ-signed binary-24 hD NearestEven s m) ∙ ap (λ (v : ℤ). roundZ 2 24 NearestEven v D) e ∙ roundZ-signed binary-24 hD NearestEven t n)

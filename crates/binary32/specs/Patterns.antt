@@ -47,7 +47,7 @@ patternValue n = signed (signOf n) (magnitudeRead n)
 abbrev pub patternValues : List ℕ → List ℤ
 patternValues patterns = map patternValue patterns
 
--- the number that a finite pattern stands for; zero is plus, so that 80000000 (hexadecimal) is zero too
+-- the number that a finite pattern stands for; 80000000 (hexadecimal) is minus zero
 unfoldable pub numberRead : ℕ → Number
 numberRead n = number binary32 (signOf n) (magnitudeRead n)
 

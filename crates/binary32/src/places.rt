@@ -64,7 +64,7 @@ fn predecessor(pattern: u32) -> PatternAnswer
     PatternAnswer::Written(pattern_of_key(k - 1))
 }
 
-// The successor: the key is one more.
+// The successor: the key is one more. That of the negative number nearest zero is minus zero.
 fn successor(pattern: u32) -> PatternAnswer
     requires { ⌜ finite pattern ≡ true ⌝ }
     ensures { λ r. ⌜ patternGiven r ≡ answerWritten (successorOf binary32 (numberRead pattern)) ⌝ }
@@ -72,6 +72,9 @@ fn successor(pattern: u32) -> PatternAnswer
     let k = key(pattern);
     if k == 4286578687 {
         return PatternAnswer::Refused(Refusal::TooLarge);
+    }
+    if k == 2147483647 {
+        return PatternAnswer::Written(2147483648);
     }
     PatternAnswer::Written(pattern_of_key(k + 1))
 }

@@ -16,7 +16,7 @@ use Rattle.format.proofs.Formats.{Admitted, positional}
 use Rattle.number.specs.declared.Number.{Number}
 use Rattle.number.specs.Numbers.{magnitude, value, greatest}
 use Rattle.number.proofs.Values.{greatest-wide}
-use Rattle.arithmetic.specs.Operations.{roundedZ}
+use Rattle.arithmetic.specs.Operations.{roundedSum}
 use Rattle.arithmetic.specs.Outcomes.{Outcome, given, too-large}
 use Rattle.arithmetic.proofs.Outcome.{roundedZ-outcome}
 use Rattle.binary32.specs.Patterns.{fieldOf, finite, magnitudeRead, numberRead, answerWritten}
@@ -67,5 +67,5 @@ module _ (d : Direction) (a b : ℕ) (ha : a % 2 ^ 31 < 254 * 2 ^ 23) (hb : b % 
       let z = value binary32 (numberRead a) +ℤ value binary32 (numberRead b) in
       let within : natAbs z ≤ greatest binary32 =
       omega (arith, sum-size (value binary32 (numberRead a)) (value binary32 (numberRead b)), size a ha, size b hb, half-size a ha, half-size b hb) in
-      let g = small-given binary32-limits d z within (roundedZ binary32 d z) (roundedZ-outcome binary32-limits d z) in
+      let g = small-given binary32-limits d z within (roundedSum binary32 d (numberRead a) (numberRead b)) (roundedZ-outcome binary32-limits d _ z) in
       sym (ap passes (unless-passed _ _ (and-made (half-finite a ha) (half-finite b hb)) ∙ ap answerWritten (g .1)))

@@ -2,7 +2,6 @@
 use Rattle.theory.proofs.Prelude.{ℕ, _≤_, _<_, _+_, suc, zero, true, false, Bool, [], _∷_, List, _++_, append-assoc, ap, _≡_, sym, refl, add-one, arith, length, getD, drop, take, set, drop-cons, drop-length}
 use lib.ListN.{List·getD-eq-default}
 use lib.Seq.{take-suc-set}
-use Rattle.theory.specs.Lists.{firstWhere}
 use Rattle.theory.specs.declared.Direction.{Direction}
 use Rattle.theory.proofs.Lists.{first-is, first-none}
 use Rattle.format.specs.Given.{Given, gives, refused, refusedAt}

@@ -13,7 +13,7 @@ use Rattle.format.specs.Directions.{isDirection, direction}
 use Rattle.format.specs.Published.{binary32}
 use Rattle.number.specs.Numbers.{value}
 use Rattle.number.specs.declared.Number.{Number}
-use Rattle.arithmetic.specs.Operations.{roundedZ, roundedSum}
+use Rattle.arithmetic.specs.Operations.{roundedSum}
 use Rattle.arithmetic.specs.Marked.{markedSum, marked}
 use Rattle.arithmetic.specs.Outcomes.{Outcome, given, too-large}
 use Rattle.arithmetic.proofs.Outcome.{roundedZ-outcome}
@@ -21,7 +21,7 @@ use Rattle.binary32.proofs.Fields.{binary32-limits}
 use Rattle.binary32.specs.Patterns.{finite, numberRead, patternValue, patternOf, answerWritten}
 use Rattle.binary32_arithmetic.specs.declared.Operation.the-variants.{Sum}
 use Rattle.binary32_arithmetic.specs.Calls.{onPatterns}
-use Rattle.binary32_arithmetic.specs.Slices.{isRefused, answerAt, written, entries, firstRefused, sums, slicesAnswer, markedEntry, inexactIn, inexactEntries, entryOf, Sums, ExactAt, Inexact, none, exact, more, SameLengths, Ends, lengths-differ, no-direction, refused-entry, all-written}
+use Rattle.binary32_arithmetic.specs.Slices.{isRefused, answerAt, written, entries, firstRefused, sums, slicesAnswer, markedEntry, inexactIn, inexactEntries, entryOf, Sums, Inexact, none, exact, more, SameLengths, Ends, lengths-differ, no-direction, refused-entry, all-written}
 use Rattle.theory.proofs.Integers.{times-one}
 use Rattle.theory.proofs.Marks.{inexact-counted}
 use Rattle.arithmetic.proofs.Results.{sum-member}
@@ -47,8 +47,8 @@ entry-ends d x y = by-finite (finite x and finite y)
     by-outcome (given g) = summed _
     by-outcome (too-large l) = above-greatest
 
-    by-finite : (t : Bool) → Entry (unless t (refused 9) (answerWritten (roundedZ binary32 d v)))
-    by-finite true = by-outcome (roundedZ-outcome binary32-limits d v)
+    by-finite : (t : Bool) → Entry (unless t (refused 9) (answerWritten (roundedSum binary32 d (numberRead x) (numberRead y))))
+    by-finite true = by-outcome (roundedZ-outcome binary32-limits d _ v)
     by-finite false = not-finite
 
 pub entry-refusals : (d : Direction) (x y : ℕ) {k : ℕ} → onPatterns Sum d x y ≡ refused k → (k ≡ 9) ⊎ (k ≡ 5)
@@ -101,7 +101,7 @@ module _ (d : Direction) (x y : ℕ) where
       by-sum : finite x and finite y ≡ true → (g : Given Number) → roundedSum binary32 d (numberRead x) (numberRead y) ≡ g → answerWritten g ≡ gives n
           → Counted (inexactIn (marked binary32 (value binary32 (numberRead x) +ℤ value binary32 (numberRead y)) 1 g)) n
       by-sum e (gives z) k w =
-          let r = reads (patternOf z) (written-read z (sum-member binary32-limits d _ _ k)) in
+          let r = reads (patternOf z) (written-read z (sum-member binary32-limits d (numberRead x) (numberRead y) k)) in
           let written : n ≡ patternOf z = sym (gives-same w) in
           let kept : value binary32 z ≡ patternValue n = ap (value binary32) (r .is) ∙ read-is-value (patternOf z) (r .finite) ∙ ap patternValue (sym written) in
           let exact : value binary32 (numberRead x) +ℤ value binary32 (numberRead y) ≡ patternValue x +ℤ patternValue y =

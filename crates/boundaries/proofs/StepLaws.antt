@@ -16,7 +16,8 @@ use Rattle.number.specs.declared.Ordering.the-variants.{Less, Equal, Greater}
 use Rattle.number.specs.Numbers.{member, magnitude, value, greatest}
 use Rattle.number.specs.Order.{orderN}
 use Rattle.number.proofs.Comparison.{size-less-says, size-equal-says, size-greater-says}
-use Rattle.arithmetic.specs.Operations.{roundedZ, roundedSum}
+use Rattle.arithmetic.specs.Operations.{roundedSum}
+use Rattle.arithmetic.proofs.Algebra.{sum-swap}
 use Rattle.fast_two_sum.specs.declared.Steps.{Steps}
 use Rattle.fast_two_sum.specs.Triples.{Summands}
 use Rattle.fast_two_sum.specs.Calls.{threeSteps, fastTwoSum}
@@ -35,9 +36,9 @@ use Rattle.boundaries.specs.Sums.{threeSum, stepWritten, stripAdded}
 use Rattle.boundaries.specs.Steps.{firstStep}
 
 -- ---- two numbers
--- three steps from two numbers whose exact sum is v gave x and y
-record Triple (d : Direction) (v : ℤ) (t : Steps) : Type 0 where
-  first : roundedZ binary32 d v ≡ gives (t .x)
+-- three steps from two numbers whose exact sum is v, given as g, gave x and y
+record Triple (d : Direction) (g : Given Number) (v : ℤ) (t : Steps) : Type 0 where
+  first : g ≡ gives (t .x)
   x-is : value binary32 (t .x) ≡ roundZ 2 24 d v 1
   x-number : member binary32 (t .x) ≡ true
   y-number : member binary32 (t .y) ≡ true
@@ -48,15 +49,15 @@ record Triple (d : Direction) (v : ℤ) (t : Steps) : Type 0 where
 abbrev pub TooMuch : Direction → ℤ → Type 0
 TooMuch d v = greatest binary32 < natAbs (roundZ 2 24 d v 1)
 
-data Steps-outcome (d : Direction) (v : ℤ) : Given Steps → Type 0 where
-  triple : {t : Steps} → Triple d v t → Steps-outcome d v (gives t)
-  too-large : roundedZ binary32 d v ≡ refused 5 → TooMuch d v → Steps-outcome d v (refused 5)
+data Steps-outcome (d : Direction) (g : Given Number) (v : ℤ) : Given Steps → Type 0 where
+  triple : {t : Steps} → Triple d g v t → Steps-outcome d g v (gives t)
+  too-large : g ≡ refused 5 → TooMuch d v → Steps-outcome d g v (refused 5)
 
 -- what demand 3 says of our own sum
-in-order : (d : Direction) {a b : Number} → Summands binary32 a b → Steps-outcome d (value binary32 a +ℤ value binary32 b) (threeSteps binary32 d d d a b)
+in-order : (d : Direction) {a b : Number} → Summands binary32 a b → Steps-outcome d (roundedSum binary32 d a b) (value binary32 a +ℤ value binary32 b) (threeSteps binary32 d d d a b)
 in-order d {a} {b} s = by (steps-outcome binary32-limits s d d d)
   where
-    by : {g : Given Steps} → SumOutcome binary32 d d d a b g → Steps-outcome d (value binary32 a +ℤ value binary32 b) g
+    by : {g : Given Steps} → SumOutcome binary32 d d d a b g → Steps-outcome d (roundedSum binary32 d a b) (value binary32 a +ℤ value binary32 b) g
     by (demand.triple t r e) =
         triple
         (record {
@@ -80,17 +81,18 @@ module _ (d : Direction) (x s : Number) where
   order-second l = rw (lt-leb _ _ l)
 
   module _ (i : member binary32 x ≡ true) (j : member binary32 s ≡ true) where
-    sum-outcome : Steps-outcome d (value binary32 x +ℤ value binary32 s) (threeSum d x s)
+    sum-outcome : Steps-outcome d (roundedSum binary32 d x s) (value binary32 x +ℤ value binary32 s) (threeSum d x s)
     sum-outcome = by (decLe (magnitude binary32 s) (magnitude binary32 x))
       where
-        by : Dec (magnitude binary32 s ≤ magnitude binary32 x) → Steps-outcome d (value binary32 x +ℤ value binary32 s) (threeSum d x s)
+        by : Dec (magnitude binary32 s ≤ magnitude binary32 x) → Steps-outcome d (roundedSum binary32 d x s) (value binary32 x +ℤ value binary32 s) (threeSum d x s)
         by (yes l) =
-            subst (Steps-outcome d (value binary32 x +ℤ value binary32 s)) (order-first l)
+            subst (Steps-outcome d (roundedSum binary32 d x s) (value binary32 x +ℤ value binary32 s)) (order-first l)
             (in-order d (record { base = refl; digits = omega arith; a-number = i; b-number = j; order = l }))
         by (no l) =
-            subst (λ (v : ℤ). Steps-outcome d v (threeSum d x s)) (+ℤ-comm (value binary32 s) (value binary32 x))
-            (subst (Steps-outcome d (value binary32 s +ℤ value binary32 x)) (order-second (omega arith))
-            (in-order d (record { base = refl; digits = omega arith; a-number = j; b-number = i; order = omega arith })))
+            subst (λ (g : Given Number). Steps-outcome d g (value binary32 x +ℤ value binary32 s) (threeSum d x s)) (sum-swap binary32 d s x)
+            (subst (λ (v : ℤ). Steps-outcome d (roundedSum binary32 d s x) v (threeSum d x s)) (+ℤ-comm (value binary32 s) (value binary32 x))
+            (subst (Steps-outcome d (roundedSum binary32 d s x) (value binary32 s +ℤ value binary32 x)) (order-second (omega arith))
+            (in-order d (record { base = refl; digits = omega arith; a-number = j; b-number = i; order = omega arith }))))
 
 -- the code compares in a format that is binary32
 module _ (d : Direction) (x s : Number) {f : Format} (e : f ≡ binary32) where
@@ -163,15 +165,15 @@ module _ (d : Direction) (x s : ℕ) (i : finite x ≡ true) (j : finite s ≡ t
   same-sum : value binary32 (numberRead x) +ℤ value binary32 (numberRead s) ≡ pairSum x s
   same-sum = ap₂ _+ℤ_ (read-is-value x i) (read-is-value s j)
 
-  written-step : {t : Steps} → Triple d (pairSum x s) t → firstStep d x s ≡ answerWritten (roundedZ binary32 d (pairSum x s))
-      → Stepped d x s (record { x = patternOf (t .x); y = patternOf (t .y) })
-  written-step {t} g e =
+  written-step : {t : Steps} → Triple d (roundedSum binary32 d (numberRead x) (numberRead s)) (pairSum x s) t → Stepped d x s (record { x = patternOf (t .x); y = patternOf (t .y) })
+  unfolding firstStep
+  written-step {t} g =
       let vx : patternValue (patternOf (t .x)) ≡ value binary32 (t .x) = written-value (t .x) (g .x-number) in
       let vy : patternValue (patternOf (t .y)) ≡ value binary32 (t .y) = written-value (t .y) (g .y-number) in
       let same : offBy x s (record { x = patternOf (t .x); y = patternOf (t .y) }) ≡ natAbs (value binary32 (t .x) +ℤ value binary32 (t .y) -ℤ pairSum x s) =
       ap₂ (λ (u v : ℤ). natAbs (u +ℤ v -ℤ pairSum x s)) vx vy in
       record {
-        first = e ∙ ap answerWritten (g .first);
+        first = ap answerWritten (g .first);
         x-is = vx ∙ g .x-is;
         x-finite = written-finite (t .x) (g .x-number);
         y-finite = written-finite (t .y) (g .y-number);
@@ -179,20 +181,16 @@ module _ (d : Direction) (x s : ℕ) (i : finite x ≡ true) (j : finite s ≡ t
         exact = λ near. same ∙ g .exact near;
       }
 
-  first-is : firstStep d x s ≡ answerWritten (roundedZ binary32 d (pairSum x s))
-  unfolding firstStep
-  first-is = ap (λ (v : ℤ). answerWritten (roundedZ binary32 d v)) same-sum
-
   pub outcome : Outcome d x s (stripAdded d x s)
-  unfolding stripAdded
+  unfolding stripAdded firstStep
   outcome =
       by (threeSum d (numberRead x) (numberRead s))
-      (subst (λ (v : ℤ). Steps-outcome d v (threeSum d (numberRead x) (numberRead s))) same-sum
+      (subst (λ (v : ℤ). Steps-outcome d (roundedSum binary32 d (numberRead x) (numberRead s)) v (threeSum d (numberRead x) (numberRead s))) same-sum
       (sum-outcome d (numberRead x) (numberRead s) (finite-member x i) (finite-member s j)))
     where
-      by : (p : Given Steps) → Steps-outcome d (pairSum x s) p → Outcome d x s (stepWritten p)
-      by p (triple g) = added (written-step g first-is)
-      by p (too-large e l) = too-large (first-is ∙ ap answerWritten e) l
+      by : (p : Given Steps) → Steps-outcome d (roundedSum binary32 d (numberRead x) (numberRead s)) (pairSum x s) p → Outcome d x s (stepWritten p)
+      by p (triple g) = added (written-step g)
+      by p (too-large e l) = too-large (ap answerWritten e) l
 
 -- ---- what the code reads and adds
 pub read-number : (n : ℕ) {z : Number} → z ≡ numberRead n → finite n ≡ true → member binary32 z ≡ true
@@ -203,7 +201,7 @@ pub triple-members : (d : Direction) (x s : Number) → member binary32 x ≡ tr
     → (member binary32 (t .x) ≡ true) × (member binary32 (t .y) ≡ true)
 triple-members d x s i j {t} e = by (threeSum d x s) (sum-outcome d x s i j) e
   where
-    by : (p : Given Steps) → Steps-outcome d (value binary32 x +ℤ value binary32 s) p → p ≡ gives t → (member binary32 (t .x) ≡ true) × (member binary32 (t .y) ≡ true)
+    by : (p : Given Steps) → Steps-outcome d (roundedSum binary32 d x s) (value binary32 x +ℤ value binary32 s) p → p ≡ gives t → (member binary32 (t .x) ≡ true) × (member binary32 (t .y) ≡ true)
     by p (triple {t = r} g) e = let same : r ≡ t = gives-same e in subst (λ (u : Steps). (member binary32 (u .x) ≡ true) × (member binary32 (u .y) ≡ true)) same (g .x-number, g .y-number)
     by p (too-large e l) k = absurd (gives-not-refused (sym k))
 

@@ -73,15 +73,15 @@ module _ {f : Format} (ok : Admitted f) {a b : Number} (s : Summands f a b) wher
       third-given ez rz g ey (beyond l) = absurd (omega (arith, l, rx .within, ap natAbs (rx .value), y-at-most binary (on-values (rx .value) (rz .value) refl)))
 
       second-given : (g : Given Number) → roundedDifference f d₂ x a ≡ g → Outcome f d₂ (value f x -ℤ value f a) 1 g → SumOutcome f d₁ d₂ d₃ a b (threeSteps f d₁ d₂ d₃ a b)
-      second-given g ez (given {x = z} rz) = third-given ez rz (roundedDifference f d₃ b z) refl (roundedZ-outcome ok d₃ (value f b -ℤ value f z))
+      second-given g ez (given {x = z} rz) = third-given ez rz (roundedDifference f d₃ b z) refl (roundedZ-outcome ok d₃ _ (value f b -ℤ value f z))
       second-given g ez (beyond l) =
           absurd (omega (arith, l, z-at-most binary (on-values (rx .value) refl refl), value-size f a, member-greatest ok (members a ok (s .a-number))))
 
     pub steps-outcome : SumOutcome f d₁ d₂ d₃ a b (threeSteps f d₁ d₂ d₃ a b)
-    steps-outcome = by (roundedSum f d₁ a b) refl (roundedZ-outcome ok d₁ (value f a +ℤ value f b))
+    steps-outcome = by (roundedSum f d₁ a b) refl (roundedZ-outcome ok d₁ _ (value f a +ℤ value f b))
       where
         by : (g : Given Number) → roundedSum f d₁ a b ≡ g → Outcome f d₁ (value f a +ℤ value f b) 1 g → SumOutcome f d₁ d₂ d₃ a b (threeSteps f d₁ d₂ d₃ a b)
-        by g ex (given {x} rx) = second-given ex rx (roundedDifference f d₂ x a) refl (roundedZ-outcome ok d₂ (value f x -ℤ value f a))
+        by g ex (given {x} rx) = second-given ex rx (roundedDifference f d₂ x a) refl (roundedZ-outcome ok d₂ _ (value f x -ℤ value f a))
         by g ex (beyond l) = rw (first-ends f d₁ d₂ d₃ a b ex) (too-large l ex)
 
     -- with the first step to nearest nothing is off

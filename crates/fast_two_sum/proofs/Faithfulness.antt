@@ -16,23 +16,23 @@ use Rattle.fast_two_sum.specs.Checks.{isResult, isFaithful, isTriple}
 
 module _ {f : Format} {x : Number} (a : Admitted f) (i : Member f x) where
   -- the number that a step gives has the value that a number of the format is compared with
-  result-is : (d : Direction) (v : ℤ) {s : Given Number} → s ≡ roundedZ f d v → isResult f s x ≡ equalZ (value f x) (roundZ (f .base) (f .digits) d v 1)
+  result-is : (d : Direction) (none : Bool) (v : ℤ) {s : Given Number} → s ≡ roundedZ f d none v → isResult f s x ≡ equalZ (value f x) (roundZ (f .base) (f .digits) d v 1)
   unfolding isResult
-  result-is d v e = ap (λ (s : Given Number). isResult f s x) e ∙ by (roundedZ-outcome a d v)
+  result-is d none v e = ap (λ (s : Given Number). isResult f s x) e ∙ by (roundedZ-outcome a d none v)
     where
       by : {s : Given Number} → Outcome f d v 1 s → isResult f s x ≡ equalZ (value f x) (roundZ (f .base) (f .digits) d v 1)
       by (given r) = ap (equalZ (value f x)) (r .value)
       by (too-large l) = refuted (λ h. omega (arith, l, ap natAbs (equal-true _ _ h), value-size f x, member-greatest a i))
 
   -- one of the two roundings is x
-  module _ (v : ℤ) {s : Given Number} (e : s ≡ roundedZ f Downward v) where
+  module _ (v : ℤ) (none : Bool) {s : Given Number} (e : s ≡ roundedZ f Downward none v) where
     pub down-decides : isResult f s x ≡ true → true ≡ isFaithful f v (value f x)
     unfolding isFaithful
-    down-decides h = sym (or-left _ (sym (result-is Downward v e) ∙ h))
+    down-decides h = sym (or-left _ (sym (result-is Downward none v e) ∙ h))
 
-    pub up-decides : isResult f s x ≡ false → {t : Given Number} → t ≡ roundedZ f Upward v → isResult f t x ≡ isFaithful f v (value f x)
+    pub up-decides : isResult f s x ≡ false → (zero : Bool) {t : Given Number} → t ≡ roundedZ f Upward zero v → isResult f t x ≡ isFaithful f v (value f x)
     unfolding isFaithful _or_
-    up-decides h g = result-is Upward v g ∙ sym (left-false _ (sym (result-is Downward v e) ∙ h))
+    up-decides h zero g = result-is Upward zero v g ∙ sym (left-false _ (sym (result-is Downward none v e) ∙ h))
       where
         left-false : {s : Bool} (t : Bool) → s ≡ false → s or t ≡ t
         left-false {s} t e = ap (λ (b : Bool). b or t) e
@@ -64,3 +64,9 @@ module _ {f : Format} (ok : Admitted f) (a b x z y : Number) where
   pub triple-test : Triple f a b x z y → isTriple f a b x z y ≡ true
   unfolding isTriple
   triple-test t = and-made (faithful-test ok _ _ (t .x-step)) (and-made (faithful-test ok _ _ (t .z-step)) (faithful-test ok _ _ (t .y-step)))
+
+-- the check reads values, so that either zero is faithful to zero
+pub triple-by-value : (f : Format) (a b x z y x′ z′ y′ : Number) → value f x ≡ value f x′ → value f z ≡ value f z′ → value f y ≡ value f y′
+    → isTriple f a b x z y ≡ isTriple f a b x′ z′ y′
+unfolding isTriple
+triple-by-value f a b x z y x′ z′ y′ ex ez ey = rw (ex, ez, ey)

@@ -1,7 +1,6 @@
 -- The order of numbers is the order of their values: first by sign, then by exponent, then by significand.
-use Rattle.theory.proofs.Prelude.{ℕ, _≤_, _<_, _+_, _^_, _*_, _-_, suc, zero, true, false, Bool, _∙_, ap, _≡_, sym, refl, ap₂, mul-pos, mul-lt-mul-of-pos-right, pow-succ', mul-le-mul, arith, ltb, ℤ, pos, _-ℤ_, negℤ, ltZ, _<ℤ_, le-ltb, lt-ltb, ltb-true, ltb-false}
+use Rattle.theory.proofs.Prelude.{ℕ, _≤_, _<_, _+_, _^_, _*_, _-_, suc, zero, true, false, Bool, _≢_, ap, _≡_, refl, ap₂, mul-pos, mul-lt-mul-of-pos-right, pow-succ', mul-le-mul, arith, ltb, ℤ, pos, _-ℤ_, negℤ, ltZ, _<ℤ_, le-ltb, lt-ltb, ltb-true, ltb-false}
 use Rattle.theory.specs.Signed.{signed}
-use Rattle.theory.proofs.Tests.{never}
 use Rattle.theory.proofs.Integers.{above, below, neg-above, neg-below, diff-parts, size-parts, parts-eq, parts-lt, lt-parts}
 use Rattle.theory.proofs.Powers.{pow-pos, pow-pred, pow-mono}
 use Rattle.number.proofs.Prelude.{Format, Admitted, placeOf, magnitude, value, Member}
@@ -67,7 +66,7 @@ turned m n = go (ltb n m) refl
     go true e = make-lt (negℤ (pos m)) (negℤ (pos n)) (omega (arith, neg-above (pos m), neg-above (pos n), neg-below (pos m), neg-below (pos n), ltb-true n m e))
     go false e = make-ge (negℤ (pos m)) (negℤ (pos n)) (omega (arith, neg-above (pos m), neg-above (pos n), neg-below (pos m), neg-below (pos n), ltb-false n m e))
 
--- the order of two signed magnitudes, where one that is negative is not zero
+-- the order of two signed magnitudes, where not both are zero
 pub both-negative : (m n : ℕ) → orderN n m ≡ orderZ (signed true m) (signed true n)
 unfolding orderN orderZ
 both-negative m n = rw (turned m n, turned n m)
@@ -76,22 +75,32 @@ pub both-positive : (m n : ℕ) → orderN m n ≡ orderZ (signed false m) (sign
 unfolding orderN orderZ
 both-positive m n = refl
 
-pub negative-less : (m n : ℕ) → 1 ≤ m → Less ≡ orderZ (signed true m) (signed false n)
+pub negative-less : (m n : ℕ) → 1 ≤ m + n → Less ≡ orderZ (signed true m) (signed false n)
 unfolding orderZ
 negative-less m n h = rw (make-lt (negℤ (pos m)) (pos n) (omega (arith, neg-above (pos m), neg-below (pos m))))
 
-pub positive-greater : (m n : ℕ) → 1 ≤ n → Greater ≡ orderZ (signed false m) (signed true n)
+pub positive-greater : (m n : ℕ) → 1 ≤ m + n → Greater ≡ orderZ (signed false m) (signed true n)
 unfolding orderZ
 positive-greater m n h =
     rw
     (make-ge (pos m) (negℤ (pos n)) (omega (arith, neg-above (pos n), neg-below (pos n))), make-lt (negℤ (pos n)) (pos m) (omega (arith, neg-above (pos n), neg-below (pos n))))
 
--- a negative number of the format is not zero
-pub negative-size : {f : Format} {x : Number} → Admitted f → Member f x → x .negative ≡ true → 1 ≤ magnitude f x
+-- and where both are
+pub both-zero : (s t : Bool) (m n : ℕ) → m ≡ 0 → n ≡ 0 → Equal ≡ orderZ (signed s m) (signed t n)
+unfolding orderZ
+both-zero true true m n e g = rw (e, g)
+both-zero true false m n e g = rw (e, g)
+both-zero false true m n e g = rw (e, g)
+both-zero false false m n e g = rw (e, g)
+
+-- the magnitude by the significand
+pub no-size : (f : Format) (x : Number) → x .significand ≡ 0 → magnitude f x ≡ 0
 unfolding magnitude
-negative-size {f} {x} a i h =
-    let some : (x .significand ≡ 0 → ⊥) = λ z. never (sym h ∙ i .zero-sign z) in
-    mul-pos (omega arith) (pow-pos (a .base-low) (placeOf f x))
+no-size f x h = rw h (omega arith)
+
+pub some-size : {f : Format} → Admitted f → (x : Number) → x .significand ≢ 0 → 1 ≤ magnitude f x
+unfolding magnitude
+some-size {f} a x h = mul-pos (omega arith) (pow-pos (a .base-low) (placeOf f x))
 
 -- ---- the order of values is an order, and compare answers it
 pub less-when : {v w : ℤ} → v <ℤ w → orderZ v w ≡ Less

@@ -1,7 +1,7 @@
 -- The numbers of a format: what membership says, as facts that `omega` reads, and how it is made.
-use Rattle.theory.proofs.Prelude.{_≤_, _<_, _^_, _-_, true, false, Bool, cond, not, ⊎-elim, _⊎_, _∙_, ap, _≡_, sym, refl, subst, arith, eqb, leb, ltb, ℤ, leZ, eq-eqb, le-leb, leb-true, leb-false, eqb-true, lt-ltb, ltb-true, eqb-false}
+use Rattle.theory.proofs.Prelude.{_≤_, _<_, _^_, _-_, true, false, Bool, ⊎-elim, _⊎_, _∙_, ap, _≡_, sym, refl, subst, arith, eqb, leb, ltb, ℤ, leZ, eq-eqb, le-leb, leb-true, leb-false, eqb-true, lt-ltb, ltb-true, eqb-false}
 use Rattle.theory.specs.Tests.{_and_, _or_}
-use Rattle.theory.proofs.Tests.{never, and-left, and-right, and-made, or-cases, or-left, or-right, not-true, refuted}
+use Rattle.theory.proofs.Tests.{never, and-left, and-right, and-made, or-cases, or-left, or-right, refuted}
 use Rattle.theory.proofs.Integers.{above, below, parts-eq}
 use Rattle.theory.proofs.Powers.{pow-pos}
 use Rattle.format.specs.declared.Format.{Format}
@@ -30,14 +30,13 @@ pub record Member (f : Format) (x : Number) : Type 0 where
   pub exponent-high : Upto (x .exponent) (f .emax)
   -- a small number stands at emin
   pub small-place : x .significand < f .base ^ (f .digits - 1) → Upto (x .exponent) (f .emin)
-  pub zero-sign : x .significand ≡ 0 → x .negative ≡ false
 
 pub least-positive : {f : Format} → Admitted f → 1 ≤ f .base ^ (f .digits - 1)
 least-positive {f} a = pow-pos (a .base-low) (f .digits - 1)
 
 module _ {f : Format} (x : Number) (a : Admitted f) where
-  at-emin : x .exponent ≡ f .emin → x .significand < f .base ^ f .digits → (x .significand ≡ 0 → x .negative ≡ false) → Member f x
-  at-emin e h z =
+  at-emin : x .exponent ≡ f .emin → x .significand < f .base ^ f .digits → Member f x
+  at-emin e h =
       let p : above (x .exponent) ≡ above (f .emin) = ap above e in
       let m : below (x .exponent) ≡ below (f .emin) = ap below e in
       let r = a .range in
@@ -46,7 +45,6 @@ module _ {f : Format} (x : Number) (a : Admitted f) where
         exponent-low = omega arith;
         exponent-high = omega arith;
         small-place = λ s. omega arith;
-        zero-sign = z;
       }
 
   of-normal : normal f x ≡ true → Member f x
@@ -61,7 +59,6 @@ module _ {f : Format} (x : Number) (a : Admitted f) where
         exponent-low = le-true (f .emin) (x .exponent) (and-left _ _ h₃);
         exponent-high = le-true (x .exponent) (f .emax) (and-right _ _ h₃);
         small-place = λ s. absurd (omega arith);
-        zero-sign = λ z. absurd (omega (arith, least-positive a));
       }
 
   of-small : small f x ≡ true → Member f x
@@ -70,14 +67,13 @@ module _ {f : Format} (x : Number) (a : Admitted f) where
       let p : 1 ≤ x .significand = leb-true _ _ (and-left _ _ h₁) in
       let h₂ = and-right _ _ h₁ in
       let u : x .significand < f .base ^ (f .digits - 1) = ltb-true _ _ (and-left _ _ h₂) in
-      at-emin (equal-true _ _ (and-right _ _ h₂)) (omega (arith, least-bound a)) (λ z. absurd (omega arith))
+      at-emin (equal-true _ _ (and-right _ _ h₂)) (omega (arith, least-bound a))
 
   of-zero : isZero f x ≡ true → Member f x
   unfolding isZero
   of-zero h₁ =
       let z : x .significand ≡ 0 = eqb-true _ _ (and-left _ _ h₁) in
-      let h₂ = and-right _ _ h₁ in
-      at-emin (equal-true _ _ (and-left _ _ h₂)) (omega (arith, least-bound a, least-positive a)) (λ _. not-true (and-right _ _ h₂))
+      at-emin (equal-true _ _ (and-right _ _ h₁)) (omega (arith, least-bound a, least-positive a))
 
   pub members : member f x ≡ true → Member f x
   unfolding member
@@ -88,7 +84,7 @@ module _ {f : Format} (x : Number) (a : Admitted f) where
   member-made i = by-least (leb (f .base ^ (f .digits - 1)) (x .significand)) refl
     where
       as-zero : x .significand ≡ 0 → Upto (x .exponent) (f .emin) → isZero f x ≡ true
-      as-zero z e = and-made (eq-eqb _ _ z) (and-made (make-equal (x .exponent) (f .emin) e (i .exponent-low)) (rw (i .zero-sign z)))
+      as-zero z e = and-made (eq-eqb _ _ z) (make-equal (x .exponent) (f .emin) e (i .exponent-low))
 
       as-small : (x .significand ≡ 0 → ⊥) → x .significand < f .base ^ (f .digits - 1) → small f x ≡ true
       as-small z s = and-made (le-leb 1 (x .significand) (omega arith)) (and-made (lt-ltb _ _ s) (make-equal (x .exponent) (f .emin) (i .small-place s) (i .exponent-low)))
@@ -126,28 +122,20 @@ module _ {f : Format} (x : Number) (a : Admitted f) where
                 exponent-low = le-true (f .emin) (x .exponent) (and-left _ _ h₃);
                 exponent-high = le-true (x .exponent) (f .emax) (and-right _ _ h₃);
                 small-place = λ s. absurd (omega arith);
-                zero-sign = λ z. absurd (omega (arith, least-positive a));
               }
 
-          few : equalZ (x .exponent) (f .emin) and cond (eqb (x .significand) 0) (not (x .negative)) (ltb (x .significand) (f .base ^ (f .digits - 1))) ≡ true → Member f x
-          few h₁ = at (eqb (x .significand) 0) refl (and-right _ _ h₁)
-            where
-              at : (t : Bool) → eqb (x .significand) 0 ≡ t → cond t (not (x .negative)) (ltb (x .significand) (f .base ^ (f .digits - 1))) ≡ true → Member f x
-              at true z n = at-emin (equal-true _ _ (and-left _ _ h₁)) (omega (arith, least-bound a, least-positive a, eqb-true (x .significand) 0 z)) (λ _. not-true n)
-              at false z s = at-emin (equal-true _ _ (and-left _ _ h₁)) (omega (arith, least-bound a, ltb-true (x .significand) (f .base ^ (f .digits - 1)) s)) (λ e. absurd (eqb-false _ _ z e))
+          few : equalZ (x .exponent) (f .emin) and ltb (x .significand) (f .base ^ (f .digits - 1)) ≡ true → Member f x
+          few h₁ = at-emin (equal-true _ _ (and-left _ _ h₁)) (omega (arith, least-bound a, ltb-true (x .significand) (f .base ^ (f .digits - 1)) (and-right _ _ h₁)))
 
       holds : Member f x → memberOf (preparedOf f) x ≡ true
-      holds i = go (leb (f .base ^ (f .digits - 1)) (x .significand)) refl (eqb (x .significand) 0) refl
+      holds i = go (leb (f .base ^ (f .digits - 1)) (x .significand)) refl
         where
-          go : (l : Bool) → leb (f .base ^ (f .digits - 1)) (x .significand) ≡ l → (z : Bool) → eqb (x .significand) 0 ≡ z
+          go : (l : Bool) → leb (f .base ^ (f .digits - 1)) (x .significand) ≡ l
               → l and ltb (x .significand) (f .base ^ f .digits) and leZ (f .emin) (x .exponent) and leZ (x .exponent) (f .emax)
-              or equalZ (x .exponent) (f .emin) and cond z (not (x .negative)) (ltb (x .significand) (f .base ^ (f .digits - 1))) ≡ true
-          go true e z g =
+              or equalZ (x .exponent) (f .emin) and ltb (x .significand) (f .base ^ (f .digits - 1)) ≡ true
+          go true e =
               or-left _ (and-made refl (and-made (lt-ltb _ _ (i .significand-high)) (and-made (make-le (f .emin) (x .exponent) (i .exponent-low)) (make-le (x .exponent) (f .emax) (i .exponent-high)))))
-          go false e true g =
-              let s = leb-false _ _ e in
-              or-right _ (and-made (make-equal (x .exponent) (f .emin) (i .small-place s) (i .exponent-low)) (rw (i .zero-sign (eqb-true _ _ g))))
-          go false e false g =
+          go false e =
               let s = leb-false _ _ e in
               or-right _ (and-made (make-equal (x .exponent) (f .emin) (i .small-place s) (i .exponent-low)) (lt-ltb _ _ s))
 

@@ -1,15 +1,10 @@
 -- Negation turns the sign of the value, negating twice gives the number back, and the magnitude has the value without its sign.
-use Rattle.theory.proofs.Prelude.{suc, zero, false, Bool, not, _∙_, ap, _≡_, sym, refl, ℤ, pos, negsuc, negℤ}
+use Rattle.theory.proofs.Prelude.{true, false, Bool, not, _∙_, _≡_, sym, refl, ap₂, pos, negℤ}
 use Rattle.theory.specs.Signed.{signed}
 use Rattle.theory.proofs.Integers.{negate-signed}
 use Rattle.number.proofs.Prelude.{Format, Admitted, magnitude, value, number, Member}
 use Rattle.number.specs.declared.Number.{Number}
-use Rattle.number.proofs.Values.{member-wide, member-greatest, number-value, number-member, member-unique}
-
-negated-back : (v : ℤ) → negℤ (negℤ v) ≡ v
-negated-back (pos zero) = refl
-negated-back (pos (suc n)) = refl
-negated-back (negsuc n) = refl
+use Rattle.number.proofs.Values.{member-wide, member-greatest, number-magnitude, number-value, number-member, number-of}
 
 module _ {f : Format} {x : Number} (a : Admitted f) (i : Member f x) where
   -- x with any sign is in the format
@@ -26,6 +21,10 @@ module _ {f : Format} {x : Number} (a : Admitted f) (i : Member f x) where
 -- negating twice gives the number back
 pub negated-twice : {f : Format} {x : Number} → Admitted f → Member f x
     → let y : Number = number f (not (x .negative)) (magnitude f x) in number f (not (y .negative)) (magnitude f y) ≡ x
+unfolding number
 negated-twice {f} {x} a i =
-    let j = signed-member a i (not (x .negative)) in
-    member-unique a (signed-member a j _) i (negated-value a j ∙ ap negℤ (negated-value a i) ∙ negated-back (value f x))
+    ap₂ (number f) (not-not (x .negative)) (number-magnitude a (member-wide a i) (not (x .negative))) ∙ number-of a i (x .negative)
+  where
+    not-not : (b : Bool) → not (not b) ≡ b
+    not-not true = refl
+    not-not false = refl

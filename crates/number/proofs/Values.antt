@@ -1,9 +1,9 @@
 -- Numbers and their exact values: a number of the format is the canonical number of its value, and the canonical number of a
 -- magnitude of the wide format up to the greatest is in the format and has that value.
-use Rattle.theory.proofs.Prelude.{ℕ, _≤_, _<_, _+_, _^_, _*_, _-_, suc, zero, _/_, true, false, Bool, not, _&&_, ⊎-elim, inl, inr, _⊎_, _∙_, ap, _≡_, sym, refl, ap₂, subst, mul-le-mul-left, pow-zero, mul-pos, mul-lt-mul-of-pos-right, mul-le-mul, zero-mul, mul-div-cancel, le-refl, arith, eqb, leb, ℤ, pos, _+ℤ_, natAbs, _-ℤ_, ne-eqb, eq-eqb, leb-true, leb-false}
+use Rattle.theory.proofs.Prelude.{ℕ, _≤_, _<_, _+_, _^_, _*_, _-_, suc, zero, _/_, true, false, Bool, ⊎-elim, inl, inr, _⊎_, _∙_, ap, _≡_, sym, refl, ap₂, subst, ℕ-discrete, pow-zero, mul-pos, mul-lt-mul-of-pos-right, mul-le-mul, mul-div-cancel, le-refl, arith, leb, ℤ, pos, _+ℤ_, natAbs, _-ℤ_, leb-true, leb-false}
 use native.Mathlib.Nat.{mul-lt-mul-of-pos-left}
-use Rattle.theory.proofs.Words.{unless, place, step, Wide, Canonical, signed}
-use Rattle.theory.proofs.Integers.{above, below, sum-parts, diff-parts, size-parts, parts-eq, size-signed}
+use Rattle.theory.proofs.Words.{place, step, Wide, Canonical, signed}
+use Rattle.theory.proofs.Integers.{above, below, neg-above, sum-parts, diff-parts, size-parts, parts-eq, size-signed}
 use Rattle.theory.proofs.Powers.{pow-add, pow-pos, pow-pred, pow-mono, pow-half}
 use Rattle.theory.proofs.Place.{place-le}
 use Rattle.theory.proofs.Wide.{wide-pow}
@@ -13,7 +13,6 @@ use Rattle.format.specs.Formats.{exponentsAdmitted, highestPlace}
 use Rattle.format.proofs.Signed.{Upto, apart}
 use Rattle.format.proofs.Formats.{Admitted, positional, exponents-made, distances}
 use Rattle.number.specs.declared.Number.{Number}
-use Rattle.format.specs.Given.{gives, refused}
 use Rattle.number.specs.Numbers.{placeOf, magnitude, value, greatest, number, delivered}
 use Rattle.number.specs.Signs.{withSign}
 use Rattle.number.proofs.Membership.{Member}
@@ -57,45 +56,25 @@ pub same-number : {s t : Bool} {m n : ℕ} {d e : ℤ} → s ≡ t → m ≡ n �
     → _≡_ {A = Number} (record { negative = s; significand = m; exponent = d }) (record { negative = t; significand = n; exponent = e })
 same-number p q r = rw (p, q, r)
 
-no-size : (m : ℕ) {q : ℕ} → 1 ≤ q → eqb (m * q) 0 ≡ eqb m 0
-no-size zero {q} h = ap (λ (n : ℕ). eqb n 0) (zero-mul q)
-no-size (suc m) {q} h = ne-eqb (suc m * q) 0 (λ e. omega (arith, mul-le-mul-left (suc m) h)) ∙ sym (ne-eqb (suc m) 0 (λ e. omega arith))
-
--- a number that is not zero keeps its sign
-keeps : (n : ℕ) (negative : Bool) → not (eqb (suc n) 0) && negative ≡ negative
-keeps n negative = ap (λ (t : Bool). not t && negative) (ne-eqb (suc n) 0 (λ e. omega arith))
-
 -- a significand at a place, with a sign
 abbrev pub written : Format → (negative : Bool) (m k : ℕ) → Number
-written f negative m k = record { negative = not (eqb m 0) && negative; significand = m; exponent = f .emin +ℤ pos k }
+written f negative m k = record { negative = negative; significand = m; exponent = f .emin +ℤ pos k }
 
--- the sign of zero does not count
-zero-plus : (n : ℕ) (negative : Bool) → signed (not (eqb n 0) && negative) n ≡ signed negative n
-zero-plus zero true = refl
-zero-plus zero false = refl
-zero-plus (suc n) negative = ap (λ (t : Bool). signed t (suc n)) (keeps n negative)
+-- two signs of one value, zero apart
+same-sign : (s t : Bool) (m n : ℕ) → signed s m ≡ signed t n → (m ≡ 0 → s ≡ t) → s ≡ t
+same-sign s t zero n e z = z refl
+same-sign true true (suc m) n e z = refl
+same-sign false false (suc m) n e z = refl
+same-sign true false (suc m) n e z = absurd (omega (arith, ap below e))
+same-sign false true (suc m) n e z = absurd (omega (arith, ap above e, neg-above (pos n)))
 
--- the number depends on the value alone
-pub number-same : (f : Format) (s t : Bool) (m n : ℕ) → signed s m ≡ signed t n → number f s m ≡ number f t n
-unfolding number
-number-same f s t m n e =
-    ap₂ (λ (b : Bool) (k : ℕ). record { negative = b; significand = k / step (f .base) (f .digits) k; exponent = f .emin +ℤ pos (place (f .base) (f .digits) k) })
-    (signs s t m n e) (sym (size-signed s m) ∙ ap natAbs e ∙ size-signed t n)
-  where
-    signs : (s t : Bool) (m n : ℕ) → signed s m ≡ signed t n → not (eqb m 0) && s ≡ not (eqb n 0) && t
-    signs s t zero zero e = refl
-    signs s t zero (suc n) e = absurd (omega (arith, sym (size-signed s 0) ∙ ap natAbs e ∙ size-signed t (suc n)))
-    signs s t (suc m) zero e = absurd (omega (arith, sym (size-signed s (suc m)) ∙ ap natAbs e ∙ size-signed t 0))
-    signs true true (suc m) (suc n) e = keeps m true ∙ sym (keeps n true)
-    signs true false (suc m) (suc n) e = absurd (omega (arith, ap above e))
-    signs false true (suc m) (suc n) e = absurd (omega (arith, ap above e))
-    signs false false (suc m) (suc n) e = keeps m false ∙ sym (keeps n false)
+-- the number depends on the value alone, but for the sign of zero
+pub number-same : (f : Format) (s t : Bool) (m n : ℕ) → signed s m ≡ signed t n → (m ≡ 0 → s ≡ t) → number f s m ≡ number f t n
+number-same f s t m n e z = ap₂ (number f) (same-sign s t m n e z) (sym (size-signed s m) ∙ ap natAbs e ∙ size-signed t n)
 
--- a result is delivered by its value: zero has no other sign
-pub delivered-same : (f : Format) (s t : Bool) (m n : ℕ) → signed s m ≡ signed t n → delivered f s m ≡ delivered f t n
-unfolding delivered
-delivered-same f s t m n e =
-    ap₂ (λ (k : ℕ) (x : Number). unless (leb k (greatest f)) (refused 5) (gives x)) (sym (size-signed s m) ∙ ap natAbs e ∙ size-signed t n) (number-same f s t m n e)
+-- and so does what is delivered
+pub delivered-same : (f : Format) (s t : Bool) (m n : ℕ) → signed s m ≡ signed t n → (m ≡ 0 → s ≡ t) → delivered f s m ≡ delivered f t n
+delivered-same f s t m n e z = ap₂ (delivered f) (same-sign s t m n e z) (sym (size-signed s m) ∙ ap natAbs e ∙ size-signed t n)
 
 module _ {f : Format} (a : Admitted f) where
   greatest-below : greatest f < f .base ^ (f .digits + highestPlace f)
@@ -109,7 +88,7 @@ module _ {f : Format} (a : Admitted f) where
     pub number-canonical : (negative : Bool) → number f negative (m * f .base ^ k) ≡ written f negative m k
     unfolding number step
     number-canonical negative =
-        same-number (ap (λ (t : Bool). not t && negative) (no-size m (pow-pos (a .base-low) k)))
+        same-number refl
         (ap (λ (i : ℕ). m * f .base ^ k / f .base ^ i) (canonical-place (positional a) c) ∙ mul-div-cancel m (pow-pos (a .base-low) k))
         (ap (λ (i : ℕ). f .emin +ℤ pos i) (canonical-place (positional a) c))
 
@@ -164,13 +143,6 @@ module _ {f : Format} (a : Admitted f) where
     number-of negative =
         number-canonical member-canonical negative ∙ same-number refl refl (place-back (f .emin) (x .exponent) (i .exponent-low))
 
-    pub own-sign : withSign x (x .negative) ≡ x
-    own-sign = same-number (by (x .significand) refl) refl refl
-      where
-        by : (m : ℕ) → x .significand ≡ m → not (eqb m 0) && x .negative ≡ x .negative
-        by zero e = sym (i .zero-sign e)
-        by (suc m) e = keeps m (x .negative)
-
   -- ---- the canonical number of a magnitude of the wide format
   pub place-highest : {n : ℕ} → n ≤ greatest f → place (f .base) (f .digits) n ≤ highestPlace f
   place-highest h = place-le (positional a) (omega (arith, greatest-below))
@@ -185,7 +157,7 @@ module _ {f : Format} (a : Admitted f) where
     -- it has that value
     pub number-value : value f (number f negative n) ≡ signed negative n
     unfolding value number
-    number-value = ap (signed (not (eqb n 0) && negative)) number-magnitude ∙ zero-plus n negative
+    number-value = ap (signed negative) number-magnitude
 
     -- and is in the format, up to the greatest number
     pub number-member : n ≤ greatest f → Member f (number f negative n)
@@ -198,7 +170,6 @@ module _ {f : Format} (a : Admitted f) where
           exponent-low = within .0;
           exponent-high = within .1;
           small-place = λ s. at-least (c .normal) s;
-          zero-sign = λ z. ap (λ (t : Bool). not t && negative) (eq-eqb n 0 (none z));
         }
       where
         at-least : (place (f .base) (f .digits) n ≡ 0) ⊎ (f .base ^ f .digits ≤ f .base * (n / step (f .base) (f .digits) n))
@@ -207,14 +178,19 @@ module _ {f : Format} (a : Admitted f) where
         at-least (inr l) s =
             absurd (omega (arith, pow-pred (f .base) (a .digits-low), mul-lt-mul-of-pos-left {k = f .base} s (omega (arith, a .base-low))))
 
-        none : n / step (f .base) (f .digits) n ≡ 0 → n ≡ 0
-        none z = sym (canonical-value (positional a) w) ∙ ap (λ (m : ℕ). m * step (f .base) (f .digits) n) z ∙ zero-mul (step (f .base) (f .digits) n)
-
-  -- two numbers of the format with one value are the same record
-  pub member-unique : {x y : Number} → Member f x → Member f y → value f x ≡ value f y → x ≡ y
+  -- two numbers of the format with one value are the same record, or both zeros
+  pub member-unique : {x y : Number} → Member f x → Member f y → value f x ≡ value f y → (magnitude f x ≡ 0 → x .negative ≡ y .negative) → x ≡ y
   unfolding value
-  member-unique {x} {y} i j e =
-      sym (own-sign i) ∙ sym (number-of i (x .negative)) ∙ number-same f (x .negative) (y .negative) (magnitude f x) (magnitude f y) e ∙ number-of j (y .negative) ∙ own-sign j
+  member-unique {x} {y} i j e z =
+      sym (number-of i (x .negative)) ∙ number-same f (x .negative) (y .negative) (magnitude f x) (magnitude f y) e z ∙ number-of j (y .negative)
+
+  pub member-zeros : {x y : Number} → Member f x → Member f y → value f x ≡ value f y → (x ≡ y) ⊎ ((magnitude f x ≡ 0) × (magnitude f y ≡ 0))
+  unfolding value
+  member-zeros {x} {y} i j e = by (ℕ-discrete (magnitude f x) 0)
+    where
+      by : Dec (magnitude f x ≡ 0) → (x ≡ y) ⊎ ((magnitude f x ≡ 0) × (magnitude f y ≡ 0))
+      by (yes z) = inr (z, sym (size-signed (y .negative) (magnitude f y)) ∙ ap natAbs (sym e) ∙ size-signed (x .negative) (magnitude f x) ∙ z)
+      by (no h) = inl (member-unique i j e (λ z. absurd (h z)))
 
   -- the greatest number, and the smallest positive one
   pub greatest-wide : Wide (f .base) (f .digits) (greatest f)

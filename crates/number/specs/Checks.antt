@@ -1,9 +1,9 @@
 -- The checks that every call begins with, in the order of document 01: the format (1), the directions (2), the numbers (3).
 use Prim.Native.Nat.{ℕ}
 use mathlib.Core.Path.{_≡_}
-use mathlib.Core.Bool.{Bool, true, false, not, cond}
+use mathlib.Core.Bool.{Bool, true, false}
 use mathlib.Core.List.{List}
-use lib.Dec.{leb, ltb, eqb}
+use lib.Dec.{leb, ltb}
 use lib.Signed.{leZ}
 use Rattle.theory.specs.Tests.{_and_, _or_, unless}
 use Rattle.theory.specs.Lists.{all}
@@ -43,7 +43,7 @@ further refusal test (Ready q) = unless (test q) (Refused refusal) (Ready q)
 unfoldable pub memberOf : Prepared → Number → Bool
 memberOf q x =
     leb (q .scale .least) (x .significand) and ltb (x .significand) (q .scale .bound) and leZ (q .format .emin) (x .exponent) and leZ (x .exponent) (q .format .emax)
-    or equalZ (x .exponent) (q .format .emin) and cond (eqb (x .significand) 0) (not (x .negative)) (ltb (x .significand) (q .scale .least))
+    or equalZ (x .exponent) (q .format .emin) and ltb (x .significand) (q .scale .least)
 
 -- the format, prepared, or the first of these refusals
 unfoldable pub entered : Format → (directions : List ℕ) (numbers : List Number) → Preparation

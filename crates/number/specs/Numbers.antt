@@ -1,6 +1,6 @@
 -- The numbers of a format, their exact values as whole multiples of β ^ Emin, and the number that has a given value.
 use Prim.Native.Nat.{ℕ, _*_, _-_, _/_, _^_}
-use mathlib.Core.Bool.{Bool, not, _&&_}
+use mathlib.Core.Bool.{Bool}
 use lib.Dec.{leb, ltb, eqb}
 use lib.IntN.{ℤ, pos, natAbs, _+ℤ_, _-ℤ_}
 use lib.Signed.{leZ}
@@ -26,9 +26,9 @@ normal f x =
 unfoldable pub small : Format → Number → Bool
 small f x = leb 1 (x .significand) and ltb (x .significand) (f .base ^ (f .digits - 1)) and equalZ (x .exponent) (f .emin)
 
--- m = 0, e = Emin, sign plus
+-- m = 0 and e = Emin, with either sign
 unfoldable pub isZero : Format → Number → Bool
-isZero f x = eqb (x .significand) 0 and equalZ (x .exponent) (f .emin) and not (x .negative)
+isZero f x = eqb (x .significand) 0 and equalZ (x .exponent) (f .emin)
 
 unfoldable pub member : Format → Number → Bool
 member f x = normal f x or small f x or isZero f x
@@ -49,11 +49,11 @@ value f x = signed (x .negative) (magnitude f x)
 unfoldable pub greatest : Format → ℕ
 greatest f = (f .base ^ f .digits - 1) * f .base ^ highestPlace f
 
--- ---- the number with this sign and this magnitude, a magnitude of the wide format; zero is plus
+-- ---- the number with this sign and this magnitude, a magnitude of the wide format; zero keeps its sign too
 unfoldable pub number : Format → (negative : Bool) (n : ℕ) → Number
 number f negative n =
     record {
-      negative = not (eqb n 0) && negative;
+      negative = negative;
       significand = n / theory.step (f .base) (f .digits) n;
       exponent = f .emin +ℤ pos (theory.place (f .base) (f .digits) n);
     }

@@ -1,16 +1,15 @@
 -- Negation and magnitude.
-use mathlib.Core.Bool.{Bool, false, not, _&&_}
+use mathlib.Core.Bool.{Bool, false, not}
 use mathlib.Core.List.{[], _∷_}
-use lib.Dec.{eqb}
 use Rattle.format.specs.declared.Format.{Format}
 use Rattle.format.specs.Given.{Given, gives}
 use Rattle.number.specs.declared.Number.{Number}
 use Rattle.number.specs.Numbers.{magnitude, number}
 use Rattle.number.specs.Checks.{checked}
 
--- the record x with another sign; zero is plus
+-- the record x with this sign
 abbrev pub withSign : Number → Bool → Number
-withSign x negative = record { negative = not (eqb (x .significand) 0) && negative; significand = x .significand; exponent = x .exponent }
+withSign x negative = record { negative = negative; significand = x .significand; exponent = x .exponent }
 
 -- the number with the magnitude of x and this sign, after the checks
 abbrev pub signedAnswer : Format → Number → (negative : Bool) → Given Number

@@ -2,7 +2,6 @@
 use crate::Number;
 use crate::NumberAnswer;
 use crate::exponents::exponent_at;
-use crate::signs::with_sign;
 use format::Prepared;
 use format::Refusal;
 use format::Significand;
@@ -13,18 +12,17 @@ ghost use Rattle.number.specs.Answers.{numberGiven};
 ghost use Rattle.number.specs.Checks.{Usable};
 ghost use Rattle.number.specs.Numbers.{number, delivered};
 
-// The number significand * base^place in units of base^emin. Zero is plus.
+// The number significand * base^place in units of base^emin.
 pub fn number_at(prepared: Prepared, negative: bool, significand: Significand, place: u32) -> Number
     requires { ⌜ Usable prepared × Canonical (prepared .format .base) (prepared .format .digits) significand place × (place ≤ prepared .highest) ⌝ }
     ensures { λ r. ⌜ r ≡ number (prepared .format) negative (significand * prepared .format .base ^ place) ⌝ }
 {
     let exponent = exponent_at(prepared.format.emin, place);
-    let number = Number {
+    Number {
         negative: negative,
         significand: significand,
         exponent: exponent,
-    };
-    with_sign(number, negative)
+    }
 }
 
 // The same, or refusal 5 above the greatest number.

@@ -21,8 +21,5 @@ pub fn is_member(prepared: Prepared, x: Number) -> bool
     if e != emin {
         return false;
     }
-    if m == 0 {
-        return !x.negative;
-    }
     m < prepared.scale.least
 }

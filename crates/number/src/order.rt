@@ -36,11 +36,15 @@ pub fn compare_magnitudes(format: Format, a: Number, b: Number) -> Ordering
     Ordering::Equal
 }
 
-// By value: a number below zero comes before one that is not.
+// By value: the zeros are equal, and else a negative number comes before one that is not.
 pub fn compare_values(format: Format, a: Number, b: Number) -> Ordering
     requires { ⌜ (admitted format ≡ true) × (member format a ≡ true) × (member format b ≡ true) ⌝ }
     ensures { λ r. ⌜ r ≡ orderZ (value format a) (value format b) ⌝ }
 {
+    let zeros = (a.significand == 0) & (b.significand == 0);
+    if zeros {
+        return Ordering::Equal;
+    }
     if a.negative {
         if b.negative {
             return compare_magnitudes(format, b, a);

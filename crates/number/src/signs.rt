@@ -8,19 +8,12 @@ ghost use mathlib.Core.Path.{_≡_};
 ghost use Rattle.number.specs.Answers.{numberGiven};
 ghost use Rattle.number.specs.Signs.{withSign, signedAnswer, negated, unsigned};
 
-// x with the sign `negative`; zero stays plus.
+// x with the sign `negative`.
 pub fn with_sign(x: Number, negative: bool) -> Number
     ensures { λ r. ⌜ r ≡ withSign x negative ⌝ }
 {
     let m = x.significand;
     let e = x.exponent;
-    if m == 0 {
-        return Number {
-            negative: false,
-            significand: m,
-            exponent: e,
-        };
-    }
     Number {
         negative: negative,
         significand: m,

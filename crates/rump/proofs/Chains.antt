@@ -24,8 +24,8 @@ settled (too-large l) = refl
 
 operation-settled : {f : Format} → Admitted f → (o : LineOperation) (d : Direction) (x y : Number) → Settled f (operationOf o f d x y)
 unfolding roundedProduct
-operation-settled a Sum d x y = settled (roundedZ-outcome a d _)
-operation-settled a Difference d x y = settled (roundedZ-outcome a d _)
+operation-settled a Sum d x y = settled (roundedZ-outcome a d _ _)
+operation-settled a Difference d x y = settled (roundedZ-outcome a d _ _)
 operation-settled {f} a Product d x y = settled (rounded-outcome a d _ _ (pow-pos (a .base-low) (belowZero (f .emin))))
 
 module _ (o : LineOperation) (f : Format) (d : Direction) {a : NumberAnswer} where

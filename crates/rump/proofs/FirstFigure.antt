@@ -1,20 +1,20 @@
 -- Figure 1, line by line: under its premise no line passes the greatest number, so each gives the theory's value.
-use Rattle.theory.proofs.Prelude.{ℕ, _≤_, _<_, _+_, _^_, _*_, _-_, suc, zero, _∙_, ap, _≡_, sym, refl, decLe, mul-le-mul-right, mul-le-mul-left, le-trans, arith, ℤ, pos, natAbs}
+use Rattle.theory.proofs.Prelude.{ℕ, _≤_, _<_, _+_, _^_, _*_, _-_, suc, zero, _∙_, ap, _≡_, sym, refl, decLe, mul-le-mul-right, mul-le-mul-left, mul-pos, le-trans, false, arith, ℤ, pos, natAbs}
 use Rattle.theory.proofs.Words.{Positional, place, lower, ufp}
 use Rattle.theory.specs.declared.Direction.the-variants.{TowardZero}
 use Rattle.theory.specs.Rump.{sum, difference, product, belowOne, scaledUp, ufpByFigure1}
-use Rattle.theory.proofs.Powers.{pow-add, pow-pos, pow-mono, pow-pred}
+use Rattle.theory.proofs.Powers.{pow-add, pow-pos, pow-mono, pow-pred, pow-lt}
 use Rattle.theory.proofs.Wide.{wide-phi}
 use Rattle.theory.proofs.Neighbours.{lower-exact}
 use Rattle.theory.proofs.Units.{ufp-le, ufp-power}
 use Rattle.theory.proofs.Operations.{sum-toward-zero}
 use Rattle.theory.proofs.FirstPlace.{scaled, below-one-is, scaled-up-is, scaled-up-most, shrunk-is, ufp-toward-zero-is}
-use Rattle.number.proofs.Prelude.{Format, highestPlace, positional, belowZero, greatest}
+use Rattle.number.proofs.Prelude.{Format, gives, highestPlace, positional, belowZero, Member, magnitude, greatest}
 use Rattle.number.specs.declared.Number.{Number}
 use Rattle.arithmetic.specs.Operations.{roundedSum, roundedDifference, roundedProduct}
 use Rattle.rump.specs.Figures.{one, power, subrealmin, figure1}
 use Rattle.rump.proofs.Reach.{First, one-positive, power-most, constant-most}
-use Rattle.rump.proofs.Lines.{Has, Line, sum-line, difference-line, product-line, subrealmin-has, power-has, one-has}
+use Rattle.rump.proofs.Lines.{Has, has-plus, product-zero, difference-zero, Line, sum-line, difference-line, product-line, subrealmin-has, power-has, one-has}
 
 -- the values of its lines, in units
 abbrev p1 : Format → ℤ
@@ -116,3 +116,20 @@ module _ {f : Format} {n : ℕ} (k : First f n) where
         let within = power-most (k .admits) (highestPlace f - f .digits) (omega arith) in
         rw (p1-line .is, phi-line .is, q-line .is, shrunk-line .is)
         (difference-line (k .admits) TowardZero (q-line .has) (shrunk-line .has) first-is (omega (arith, ufp-most, within)))
+
+  -- ---- of plus zero, which each line gives
+  p1-plus : p1-line .number .negative ≡ false
+  p1-plus =
+      let size : ℕ = (f .base ^ f .digits - 1) * f .base ^ spare in
+      let same : p1 f ≡ pos size = rw (one-is, below-one-is ok spare) in
+      has-plus (k .admits) {n = size} (record { number = p1-line .has .number; is = p1-line .has .is ∙ same })
+      (mul-pos (omega (arith, pow-lt (k .admits .base-low) (k .admits .digits-low), pow-pos (k .admits .base-low) 0)) (pow-pos (k .admits .base-low) spare))
+
+  phi-plus : phi-line .number .negative ≡ false
+  phi-plus = has-plus (k .admits) (phi-line .has) (mul-pos (omega arith) (one-positive (k .admits)))
+
+  pub figure1-zero : {x : Number} → Member f x → magnitude f x ≡ 0 → x .negative ≡ false → figure1 f x ≡ gives x
+  unfolding figure1
+  figure1-zero {x} i z s =
+      let a = k .admits in
+      rw (p1-line .is, phi-line .is, product-zero a i z s (phi-line .number) phi-plus, product-zero a i z s (p1-line .number) p1-plus) (difference-zero a i z s)

@@ -1,21 +1,23 @@
 -- Lines of the figures whose values are known: what an operation on two of them gives where the rounded value is at most the greatest
 -- number of the format, and the constants.
-use Rattle.theory.proofs.Prelude.{ℕ, _≤_, _+_, _^_, _*_, true, false, xor, _∙_, ap, _≡_, sym, refl, ap₂, subst, pow-zero, mul-one, arith, ℤ, pos, _+ℤ_, natAbs, _-ℤ_, _*ℤ_}
-use native.Mathlib.Nat.{one-mul}
+use Rattle.theory.proofs.Prelude.{ℕ, _≤_, _+_, _^_, _*_, true, false, xor, _∙_, ap, _≡_, sym, refl, ap₂, subst, pow-zero, mul-one, zero-mul, arith, ℤ, pos, _+ℤ_, natAbs, _-ℤ_, _*ℤ_}
+use native.Mathlib.Nat.{one-mul, mul-zero}
 use Rattle.theory.proofs.Words.{Wide, signed, roundZ}
 use Rattle.theory.specs.declared.Direction.{Direction}
+use Rattle.theory.specs.declared.Direction.the-variants.{TowardZero}
 use Rattle.theory.specs.Rump.{sum, difference, product}
-use Rattle.theory.proofs.Integers.{size-signed}
+use Rattle.theory.proofs.Integers.{size-signed, plus-sign}
 use Rattle.theory.proofs.Powers.{pow-add, pow-pos}
 use Rattle.theory.proofs.Wide.{wide-pow}
-use Rattle.number.proofs.Prelude.{Format, Given, gives, Admitted, positional, aboveZero, belowZero, member, magnitude, value, greatest, number, members, member-made}
+use Rattle.number.proofs.Prelude.{Format, Given, gives, Admitted, positional, aboveZero, belowZero, member, magnitude, value, greatest, number, Member, members, member-made}
 use Rattle.number.specs.declared.Number.{Number}
 use Rattle.number.specs.declared.NumberAnswer.the-variants.{Value}
-use Rattle.number.proofs.Values.{number-same, number-of, own-sign, number-member, number-value, one-greatest}
+use Rattle.number.proofs.Values.{number-same, number-of, number-member, number-value, one-greatest}
 use Rattle.wide.proofs.Signs.{signed-times}
 use Rattle.arithmetic.specs.Operations.{roundedSum, roundedDifference, roundedProduct}
 use Rattle.arithmetic.specs.Outcomes.{Outcome, given, too-large}
-use Rattle.arithmetic.proofs.Outcome.{rounded-outcome, roundedZ-outcome}
+use Rattle.arithmetic.proofs.Outcome.{rounded-outcome, roundedZ-outcome, rounded-exact, roundedZ-exact}
+use Rattle.arithmetic.proofs.Algebra.{xor-plus, xor-swap}
 use Rattle.rump.specs.Figures.{one, power, subrealmin, Answers}
 use Rattle.rump.proofs.Reach.{Reach, first-power, constant-most}
 
@@ -34,12 +36,16 @@ module _ {f : Format} (a : Admitted f) where
   pub number-has : {n : ℕ} → Wide (f .base) (f .digits) n → n ≤ greatest f → {x : Number} → x ≡ number f false n → Has f x (pos n)
   number-has w l e = rw e (record { number = member-made _ a (number-member a w false l); is = number-value a w false })
 
-  -- a number is known by its value
-  pub has-number : {x : Number} {n : ℕ} → Has f x (pos n) → x ≡ number f false n
+  -- a number other than zero is known by its value
+  pub has-plus : {x : Number} {n : ℕ} → Has f x (pos n) → 1 ≤ n → x .negative ≡ false
   unfolding value
-  has-number {x} {n} h =
+  has-plus {x} {n} h l = plus-sign (x .negative) (magnitude f x) n (h .is) l
+
+  pub has-number : {x : Number} {n : ℕ} → Has f x (pos n) → 1 ≤ n → x ≡ number f false n
+  unfolding value
+  has-number {x} {n} h l =
       let i = members x a (h .number) in
-      sym (own-sign a i) ∙ sym (number-of a i (x .negative)) ∙ number-same f (x .negative) false (magnitude f x) n (h .is)
+      sym (number-of a i (x .negative)) ∙ number-same f (x .negative) false (magnitude f x) n (h .is) (λ _. has-plus h l)
 
 -- ---- lines
 -- what is given is a number with the value v
@@ -56,13 +62,13 @@ module _ {f : Format} (a : Admitted f) (d : Direction) {x y : Number} {v w : ℤ
   pub sum-line : sum (f .base) (f .digits) d v w ≡ u → natAbs u ≤ greatest f → Line f (roundedSum f d x y) u
   unfolding sum
   sum-line e l =
-      settled (roundedZ-outcome a d (value f x +ℤ value f y))
+      settled (roundedZ-outcome a d _ (value f x +ℤ value f y))
       (ap₂ (λ (i j : ℤ). roundZ (f .base) (f .digits) d (i +ℤ j) 1) (h .is) (k .is) ∙ e) l
 
   pub difference-line : difference (f .base) (f .digits) d v w ≡ u → natAbs u ≤ greatest f → Line f (roundedDifference f d x y) u
   unfolding difference
   difference-line e l =
-      settled (roundedZ-outcome a d (value f x -ℤ value f y))
+      settled (roundedZ-outcome a d _ (value f x -ℤ value f y))
       (ap₂ (λ (i j : ℤ). roundZ (f .base) (f .digits) d (i -ℤ j) 1) (h .is) (k .is) ∙ e) l
 
   pub product-line : aboveZero (f .emin) ≡ 0 → product (f .base) (f .digits) d (one f) v w ≡ u → natAbs u ≤ greatest f → Line f (roundedProduct f d x y) u
@@ -72,6 +78,19 @@ module _ {f : Format} (a : Admitted f) (d : Direction) {x y : Number} {v w : ℤ
       rw (low, pow-zero (f .base), mul-one (magnitude f x * magnitude f y)) (sym (signed-times _ _ _ _)) in
       settled (rounded-outcome a d _ _ (pow-pos (a .base-low) (belowZero (f .emin))))
       (ap (λ (i : ℤ). roundZ (f .base) (f .digits) d i (one f)) (same ∙ ap₂ _*ℤ_ (h .is) (k .is)) ∙ e) l
+
+-- ---- lines of plus zero, in the directions of the figures
+module _ {f : Format} (a : Admitted f) {x : Number} (i : Member f x) (z : magnitude f x ≡ 0) (s : x .negative ≡ false) where
+  pub product-zero : (y : Number) → y .negative ≡ false → roundedProduct f TowardZero y x ≡ gives x
+  unfolding roundedProduct value
+  product-zero y t =
+      let signs : xor (y .negative) (x .negative) ≡ x .negative = rw t (xor-swap false (x .negative) ∙ xor-plus (x .negative) false refl) in
+      rounded-exact a TowardZero i _ _ (pow-pos (a .base-low) (belowZero (f .emin)))
+      (rw (z, zero-mul (f .base ^ belowZero (f .emin)), mul-zero (magnitude f y), zero-mul (f .base ^ aboveZero (f .emin)))) (rw signs) (λ _. signs)
+
+  pub difference-zero : roundedDifference f TowardZero x x ≡ gives x
+  unfolding value
+  difference-zero = roundedZ-exact a TowardZero i _ _ (rw (z, s)) (λ _. rw s)
 
 -- ---- the constants
 module _ {f : Format} (a : Admitted f) where

@@ -1,15 +1,18 @@
 -- Demand 2 of Rump's routes: for every admitted format and every number that keeps the premise the figure, with no line refused, gives
 -- the place, so that the route answers what units::ufp or units::ulp answers; where the premise fails, a number of the format is
 -- refused by 8, after 1 and 3. In binary16 the premise always fails, as Emax is less than p.
-use Rattle.theory.proofs.Prelude.{ℕ, true, false, Bool, [], _∷_, _∙_, ap, _≡_, refl, pos}
-use Rattle.theory.proofs.Words.{_and_, unless, all, ufp, ulp}
+use Rattle.theory.proofs.Prelude.{ℕ, _≤_, suc, zero, true, false, Bool, [], _∷_, _∙_, ap, _≡_, refl, pos}
+use Rattle.theory.proofs.Words.{_and_, unless, all, place, ufp, ulp}
+use Rattle.theory.proofs.Powers.{pow-pos}
+use Rattle.theory.proofs.Units.{ufp-power, ulp-pos}
 use Rattle.theory.proofs.Tests.{and-left, unless-passed, unless-failed}
 use Rattle.number.proofs.Prelude.{Format, Given, gives, refused, admitted, member, magnitude, number, checked, one-checked}
 use Rattle.number.specs.declared.Number.{Number}
 use Rattle.format.specs.Published.{binary16, publishedFormat}
-use Rattle.format.proofs.Formats.{Admitted, admits, admitted-made}
+use Rattle.format.proofs.Formats.{Admitted, admits, admitted-made, positional}
 use Rattle.format.proofs.PublishedFormats.{published-admitted}
 use Rattle.number.proofs.Membership.{Member, members, member-made, usable}
+use Rattle.number.proofs.Values.{member-wide, number-magnitude}
 use Rattle.number.proofs.Negation.{signed-member, unsigned-value}
 use Rattle.units.specs.Places.{firstPlace, lastPlace}
 use Rattle.rump.specs.declared.Figure.{Figure}
@@ -19,7 +22,7 @@ use Rattle.rump.specs.Figures.{figure1, figure3, figure4, figure5}
 use Rattle.rump.specs.Routes.{figured, route, RouteChecks, not-admitted, not-member, premise-fails, runs, ufpTowardZero, ulpUpward, ulpTowardZero, ulpUnbranched}
 use Rattle.rump.proofs.Reach.{first, last}
 use Rattle.rump.proofs.Lines.{Has, Line, has-number}
-use Rattle.rump.proofs.FirstFigure.{figure1-line}
+use Rattle.rump.proofs.FirstFigure.{figure1-line, figure1-zero}
 use Rattle.rump.proofs.LastFigures.{figure3-line, figure4-line, figure5-line}
 
 -- ---- the figures
@@ -31,21 +34,29 @@ module _ {f : Format} (a : Admitted f) {x : Number} (i : Member f x) where
   size-has : Has f size (pos (magnitude f x))
   size-has = record { number = member-made _ a (signed-member a i false); is = unsigned-value a i }
 
-  given : {r : Given Number} {n : ℕ} → Line f r (pos n) → r ≡ gives (number f false n)
-  given l = l .is ∙ ap gives (has-number a (l .has))
+  given : {r : Given Number} {n : ℕ} → 1 ≤ n → Line f r (pos n) → r ≡ gives (number f false n)
+  given h l = l .is ∙ ap gives (has-number a (l .has) h)
 
   pub figure1-is : firstPremise f x ≡ true → figure1 f size ≡ gives (number f false (ufp (f .base) (magnitude f x)))
-  figure1-is h = given (figure1-line (first (usable (admitted-made a) refl) x h) size-has)
+  unfolding ufp number
+  figure1-is h = by (magnitude f x) refl
+    where
+      by : (n : ℕ) → magnitude f x ≡ n → figure1 f size ≡ gives (number f false (ufp (f .base) (magnitude f x)))
+      by zero e = figure1-zero (first (usable (admitted-made a) refl) x h) (signed-member a i false) (number-magnitude a (member-wide a i) false ∙ e) refl ∙ ap (λ (m : ℕ). gives (number f false m)) (e ∙ rw e)
+      by (suc n) e = given (rw (e, ufp-power (a .base-low) n) (pow-pos (a .base-low) (place (f .base) 1 (suc n)))) (figure1-line (first (usable (admitted-made a) refl) x h) size-has)
 
   module _ (h : lastPremise f x ≡ true) where
+    some : 1 ≤ ulp (f .base) (f .digits) (magnitude f x)
+    some = ulp-pos (positional a) (last (usable (admitted-made a) refl) x (member-made x a i) h .some)
+
     pub figure3-is : figure3 f size ≡ gives (number f false (ulp (f .base) (f .digits) (magnitude f x)))
-    figure3-is = given (figure3-line (last (usable (admitted-made a) refl) x (member-made x a i) h) size-has)
+    figure3-is = given some (figure3-line (last (usable (admitted-made a) refl) x (member-made x a i) h) size-has)
 
     pub figure4-is : figure4 f size ≡ gives (number f false (ulp (f .base) (f .digits) (magnitude f x)))
-    figure4-is = given (figure4-line (last (usable (admitted-made a) refl) x (member-made x a i) h) size-has)
+    figure4-is = given some (figure4-line (last (usable (admitted-made a) refl) x (member-made x a i) h) size-has)
 
     pub figure5-is : figure5 f size ≡ gives (number f false (ulp (f .base) (f .digits) (magnitude f x)))
-    figure5-is = given (figure5-line (last (usable (admitted-made a) refl) x (member-made x a i) h) size-has)
+    figure5-is = given some (figure5-line (last (usable (admitted-made a) refl) x (member-made x a i) h) size-has)
 
 -- ---- the routes, refused numbers too
 -- what comes after a test may lean on it

@@ -12,7 +12,7 @@ use Rattle.theory.proofs.Integers.{above, below, le-parts, lt-parts, pa
 use Rattle.theory.proofs.Neighbours.{lowerQ-le}
 use Rattle.theory.proofs.Round.{round-exact}
 use Rattle.theory.proofs.Signed.{roundZ-signed, toward-zero-size, downward-le, le-upward}
-use Rattle.theory.proofs.Order.{Upto, Under, lt-true, lt-false, make-lt, make-ge}
+use Rattle.theory.proofs.Order.{Under, lt-true, lt-false, make-lt, make-ge}
 
 module _ (v N : ℤ) (D : ℕ) where
   -- a mark is true of the exact value

@@ -1,21 +1,14 @@
 -- The places of a number of the format, as the code writes them.
-use Rattle.theory.proofs.Prelude.{ℕ, _≤_, _<_, _+_, _^_, _*_, _-_, suc, zero, true, false, Bool, not, _&&_, _∙_, ap, _≡_, sym, refl, ap₂, zero-mul, lt-of-not-le, arith, eqb, ℤ, pos}
-use Rattle.theory.proofs.Words.{Canonical, ufp, ulp, uls, zeros, signed}
+use Rattle.theory.proofs.Prelude.{ℕ, _≤_, _<_, _+_, _^_, _*_, _-_, suc, zero, false, not, _∙_, ap, _≡_, sym, zero-mul, lt-of-not-le, arith, ℤ, pos}
+use Rattle.theory.proofs.Words.{Canonical, ufp, ulp, uls, zeros}
 use Rattle.theory.proofs.Powers.{pow-mono}
 use Rattle.theory.proofs.Units.{ufp-shift, ulp-canonical}
 use Rattle.theory.proofs.LeastPlace.{uls-shift, zeros-found}
 use Rattle.number.proofs.Prelude.{Format, highestPlace, Admitted, positional, placeOf, magnitude, number, Member}
 use Rattle.number.specs.declared.Number.{Number}
-use Rattle.number.proofs.Values.{place-back, number-same, number-canonical, number-of, own-sign, member-canonical, member-highest}
+use Rattle.number.specs.Signs.{withSign}
+use Rattle.number.proofs.Values.{place-back, number-canonical, number-of, member-canonical, member-highest}
 use Rattle.units.proofs.Forms.{first-canonical}
-
-zero-signed : (s : Bool) → signed s 0 ≡ signed false 0
-zero-signed true = refl
-zero-signed false = refl
-
-plus : (t : Bool) → not t && false ≡ false
-plus true = refl
-plus false = refl
 
 -- fewer zeros than digits
 zeros-below : {β p m : ℕ} → 2 ≤ β → 1 ≤ m → m < β ^ p → zeros β m < p
@@ -29,22 +22,20 @@ module _ {f : Format} {x : Number} (a : Admitted f) (i : Member f x) where
   own : Canonical (f .base) (f .digits) (x .significand) (placeOf f x)
   own = member-canonical a i
 
-  -- zero has zero for a place
-  pub zero-place : (place : ℕ → ℕ) → place 0 ≡ 0 → x .significand ≡ 0 → x ≡ number f false (place (magnitude f x))
+  -- either zero has plus zero for a place
+  pub zero-place : (place : ℕ → ℕ) → place 0 ≡ 0 → x .significand ≡ 0 → withSign x false ≡ number f false (place (magnitude f x))
   unfolding magnitude
   zero-place place none e =
       let size : magnitude f x ≡ 0 = ap (λ (m : ℕ). m * f .base ^ placeOf f x) e ∙ zero-mul (f .base ^ placeOf f x) in
-      sym (own-sign a i) ∙ sym (number-of a i (x .negative)) ∙ ap (number f (x .negative)) size
-      ∙ number-same f (x .negative) false 0 0 (zero-signed (x .negative))
-      ∙ ap (number f false) (sym none ∙ ap place (sym size))
+      sym (number-of a i false) ∙ ap (number f false) (size ∙ sym none ∙ ap place (sym size))
 
   pub first-written : number f false (ufp (f .base) (magnitude f x)) ≡ record { negative = false; significand = ufp (f .base) (x .significand); exponent = x .exponent }
   unfolding magnitude
   first-written =
       ap (number f false) (ufp-shift (a .base-low) (x .significand) (placeOf f x))
       ∙ number-canonical a (first-canonical (positional a) own) false
-      ∙ ap₂ (λ (s : Bool) (e : ℤ). record { negative = s; significand = ufp (f .base) (x .significand); exponent = e })
-      (plus (eqb (ufp (f .base) (x .significand)) 0)) (place-back (f .emin) (x .exponent) (i .exponent-low))
+      ∙ ap (λ (e : ℤ). record { negative = false; significand = ufp (f .base) (x .significand); exponent = e })
+      (place-back (f .emin) (x .exponent) (i .exponent-low))
 
   module _ (some : 1 ≤ x .significand) where
     pub last-power : f .base ^ placeOf f x ≡ ulp (f .base) (f .digits) (magnitude f x)

@@ -69,6 +69,9 @@ pub fn successor(format: Format, x: Number) -> NumberAnswer
     match enter(format, x) {
         Preparation::Refused(why) => NumberAnswer::Refused(why),
         Preparation::Ready(prepared) => {
+            if x.significand == 0 {
+                return away(prepared, x, false);
+            }
             if x.negative {
                 return toward(prepared, x, true);
             }

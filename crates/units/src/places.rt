@@ -1,4 +1,4 @@
-// The first place, the last place and the place of the least nonzero digit. All three are 0 at 0.
+// The first place, the last place and the place of the least nonzero digit. All three are plus zero at either zero.
 use crate::powers_of_base::leading_power;
 use crate::powers_of_base::power_number;
 use crate::powers_of_base::trailing_zeros;
@@ -9,6 +9,7 @@ use number::Number;
 use number::NumberAnswer;
 use number::checks::enter;
 use number::exponents::place_of;
+use number::signs::with_sign;
 ghost use mathlib.Core.Path.{_≡_};
 ghost use Rattle.number.specs.Answers.{numberGiven};
 ghost use Rattle.number.specs.Checks.{Operand};
@@ -37,7 +38,7 @@ fn last_place(prepared: Prepared, x: Number) -> Number
     ensures { λ r. ⌜ r ≡ placeNumber Place.Last (prepared .format) x ⌝ }
 {
     if x.significand == 0 {
-        return x;
+        return with_sign(x, false);
     }
     power_number(prepared, place_of(prepared, x))
 }
@@ -47,7 +48,7 @@ fn least_place(prepared: Prepared, x: Number) -> Number
     ensures { λ r. ⌜ r ≡ placeNumber Place.Least (prepared .format) x ⌝ }
 {
     if x.significand == 0 {
-        return x;
+        return with_sign(x, false);
     }
     let place = place_of(prepared, x);
     power_number(

@@ -1,6 +1,7 @@
 -- `arithmetic::sum::marked_difference` meets its contract: the sum with the second number negated.
-use Rattle.theory.proofs.Prelude.{_∙_, ap, ℤ, _+ℤ_, needs}
-use Rattle.arithmetic.proofs.Prelude.{value, known, roundedZ}
+use Rattle.theory.proofs.Prelude.{Bool, _∙_, ap, ap₂, ℤ, _+ℤ_, needs}
+use Rattle.arithmetic.proofs.Prelude.{Number, value, known, roundedZ}
+use Rattle.arithmetic.specs.Operations.{zeroSign}
 use Rattle.arithmetic.specs.Marked.{marked}
 use Rattle.arithmetic.proofs.Prepared.{turned-member, turned-value}
 use Rattle.arithmetic.proofs.sum.marked_difference.Statement.{statement}
@@ -17,7 +18,8 @@ returns c =
     let s = c .before .before .before in
     let f = s .args .prepared .format in
     c .marked-sum .ensures
-    ∙ ap (λ (v : ℤ). marked f (value f (s .args .a) +ℤ v) 1 (roundedZ f (s .args .direction) (value f (s .args .a) +ℤ v)))
+    ∙ ap₂ (λ (t : Bool) (v : ℤ). marked f (value f (s .args .a) +ℤ v) 1 (roundedZ f (s .args .direction) (zeroSign (s .args .direction) (s .args .a .negative) t) (value f (s .args .a) +ℤ v)))
+    (ap (λ (x : Number). x .negative) (c .before .with-sign .ensures))
     (turned-value (known (s .pre .usable) .admits) (s .args .b) (s .pre .second) (c .before .with-sign .ensures))
 
 pub marked-difference-spec : {M : Type 1} → statement M

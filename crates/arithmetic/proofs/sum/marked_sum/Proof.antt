@@ -1,8 +1,9 @@
 -- `arithmetic::sum::marked_sum` meets its contract: the numbers in the order of their exponents, the sum in the wide format, delivered.
-use Rattle.theory.proofs.Prelude.{ℕ, _+_, Bool, cond, _∙_, ap, _≡_, refl, subst, arith, ℤ, natAbs, _-ℤ_, ltZ, w32, SFits, needs}
-use Rattle.arithmetic.proofs.Prelude.{Prepared, back, exponents-made, Wide, Number, placeOf, Operands, Member, members, known, member-highest, highest-most, roundedZ}
-use Rattle.arithmetic.specs.Operands.{wideOf}
-use Rattle.arithmetic.specs.Marked.{marked, markedSum}
+use Rattle.theory.proofs.Prelude.{ℕ, _+_, Bool, cond, _∙_, ap, _≡_, sym, refl, subst, arith, natAbs, _-ℤ_, ltZ, w32, SFits, needs}
+use Rattle.arithmetic.proofs.Prelude.{Direction, Prepared, back, exponents-made, Wide, Rounding, Number, placeOf, Operands, Member, members, known, member-highest, highest-most}
+use Rattle.arithmetic.specs.Operands.{wideOf, zeroSigned}
+use Rattle.arithmetic.specs.Operations.{zeroSign}
+use Rattle.arithmetic.specs.Marked.{markedSum}
 use Rattle.arithmetic.proofs.Prepared.{Delivers, Aligned, aligned, place-apart, scale-scaled, bounded, add-delivers}
 use Rattle.arithmetic.proofs.sum.marked_sum.Statement.{statement}
 use Rattle.arithmetic.proofs.sum.marked_sum.Tie as tie
@@ -67,8 +68,8 @@ high-is c =
     let x = selected c .before .select .result in
     ap (λ (k : ℕ). record { negative = x .negative; significand = x .significand; place = k }) (place c)
 
-add-t12 : tie.Need-add-t12
-add-t12 c =
+add-t14 : tie.Need-add-t14
+add-t14 c =
     let s = selected (c .before) in
     let ok = known (ordered s .operands .usable) .admits in
     omega (arith, place (c .before), member-highest ok (high-member s), highest-most ok)
@@ -80,21 +81,33 @@ aligned-sum-requires c κs =
     let o = ordered s .operands in
     (scale-scaled (o .usable), bounded (o .usable) (s .before .select .result) (o .first) (high-is v), bounded (o .usable) (s .select2 .result) (o .second) (v .wide-of .ensures), refl)
 
--- what comes from the wide format
-result : (c : tie.After-aligned-sum) → let s = start (selected (c .before .before .before)) .args in
-    Delivers (s .prepared .format) (c .aligned-sum .result) (markedSum (s .prepared .format) (s .direction) (s .a) (s .b))
+abbrev taken : tie.After-with-zero-sign → tie.After-wide-of
+taken c = c .before .before .before .before .before
+
+-- what comes from the wide format, with the sign of zero
+reordered : {q : Prepared} {a b high low : Number} → Aligned q a b high low → (d : Direction) {none : Bool} (r : Rounding) {s : Rounding} → none ≡ zeroSign d (a .negative) (b .negative)
+    → s ≡ zeroSigned none r → Delivers (q .format) (zeroSigned (zeroSign d (high .negative) (low .negative)) r) (markedSum (q .format) d high low)
+    → Delivers (q .format) s (markedSum (q .format) d a b)
+reordered {q} {high = high} {low = low} o d r {s} e k h =
+    let same : zeroSigned (zeroSign d (high .negative) (low .negative)) r ≡ s = ap (λ (t : Bool). zeroSigned t r) (o .zero d ∙ sym e) ∙ sym k in
+    subst (Delivers (q .format) s) (o .sum d) (subst (λ (x : Rounding). Delivers (q .format) x (markedSum (q .format) d high low)) same h)
+
+result : (c : tie.After-with-zero-sign) → let s = start (selected (taken c)) .args in
+    Delivers (s .prepared .format) (c .with-zero-sign .result) (markedSum (s .prepared .format) (s .direction) (s .a) (s .b))
 result c =
-    let v = c .before .before .before in
+    let v = taken c in
     let s = selected v in
-    let a = start s .args in
-    subst (λ (z : ℤ). Delivers (a .prepared .format) (c .aligned-sum .result) (marked (a .prepared .format) z 1 (roundedZ (a .prepared .format) (a .direction) z))) (ordered s .sum)
-    (add-delivers (ordered s .operands .usable) (a .direction) (s .before .select .result) (s .select2 .result) (high-is v) (v .wide-of .ensures) (c .aligned-sum .ensures))
+    let o = ordered s in
+    let d = start s .args .direction in
+    reordered o d (c .before .before .aligned-sum .result) (c .before .zero-sign .ensures) (c .with-zero-sign .ensures)
+    (add-delivers (o .operands .usable) d (s .before .select .result) (s .select2 .result) (high-is v) (v .wide-of .ensures) (c .before .before .aligned-sum .ensures))
 
 pub marked-sum-spec : {M : Type 1} → statement M
 marked-sum-spec =
     tie.close
     (tie.spec
     (λ c κs. search needs) (λ c κs. search needs) distance-requires
-    (λ c κs. let o = ordered (c .before .before .before) .operands in record { usable = o .usable; number = o .second }) add-t12
-    aligned-sum-requires (λ c κs. (ordered (selected (c .before .before .before)) .operands .usable, result c .canonical))
+    (λ c κs. let o = ordered (c .before .before .before) .operands in record { usable = o .usable; number = o .second }) add-t14
+    aligned-sum-requires (λ c κs. search needs) (λ c κs. search needs)
+    (λ c κs. (ordered (selected (taken c)) .operands .usable, result c .canonical))
     (λ c. c .deliver-wide .ensures ∙ result (c .before) .is))

@@ -51,7 +51,7 @@ summed c =
     (prepared-format (r .before .before .prepared-binary32 .ensures))
 
 write-entry-requires : tie.Need-write-entry-requires
-write-entry-requires c κs = λ x h. sum-member binary32-limits _ _ _ (sym (marked-number binary32 _ 1 _) ∙ ap withoutMark (sym (summed c) ∙ ap roundedGiven h))
+write-entry-requires c κs = λ x h. sum-member binary32-limits _ (c .before .before .read-finite .result) (c .before .read-finite2 .result) (sym (marked-number binary32 _ 1 _) ∙ ap withoutMark (sym (summed c) ∙ ap roundedGiven h))
 
 returns-3 : tie.Need-returns-3
 unfolding markedEntry

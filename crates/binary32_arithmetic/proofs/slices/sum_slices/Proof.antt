@@ -5,7 +5,7 @@ use Rattle.theory.specs.declared.Direction.{Direction}
 use Rattle.theory.proofs.Tests.{and-made, denied, granted, unless-passed, unless-failed}
 use Rattle.format.specs.Given.{Given, gives, refused, _then_}
 use Rattle.format.specs.Directions.{isDirection, direction}
-use Rattle.binary32_arithmetic.specs.Slices.{slicesGiven, examinedGiven, entries, firstRefused, sums, inexactEntries, slicesAnswer}
+use Rattle.binary32_arithmetic.specs.Slices.{examinedGiven, entries, firstRefused, sums, inexactEntries, slicesAnswer}
 use Rattle.binary32_arithmetic.proofs.slices.sum_slices.Statement.{statement}
 use Rattle.binary32_arithmetic.proofs.slices.sum_slices.Tie as tie
 

@@ -26,7 +26,7 @@ add-requires c κs =
 write-answer-requires : tie.Need-write-answer-requires
 write-answer-requires c κs x h =
     let e = c .before .before .before .prepared-binary32 .ensures in
-    subst (λ (f : Format). member f x ≡ true) (prepared-format e) (sum-member (known (usable binary32-admitted e) .admits) _ _ _ (sym (c .add .ensures) ∙ ap numberGiven h))
+    subst (λ (f : Format). member f x ≡ true) (prepared-format e) (sum-member (known (usable binary32-admitted e) .admits) _ (c .before .before .read-finite .result) (c .before .read-finite2 .result) (sym (c .add .ensures) ∙ ap numberGiven h))
 
 returns : tie.Need-returns
 returns c =

@@ -31,8 +31,9 @@ first c = sym (c .before .before .add .ensures) ∙ ap numberGiven (c .sum .give
 
 subtract-requires : tie.Need-subtract-requires
 subtract-requires c κs =
-    let p = start₁ (c .before) .pre in
-    let x = sum-member (known (p .usable) .admits) _ _ _ (first (c .before)) in
+    let s = start₁ (c .before) in
+    let p = s .pre in
+    let x = sum-member (known (p .usable) .admits) _ (s .args .a) (s .args .b) (first (c .before)) in
     search needs
 
 returns-2 : tie.Need-returns-2
@@ -51,8 +52,9 @@ second c = sym (c .before .before .subtract .ensures) ∙ ap numberGiven (c .dif
 
 subtract-requires-2 : tie.Need-subtract-requires-2
 subtract-requires-2 c κs =
-    let p = start₁ (sum-of (c .before)) .pre in
-    let z = difference-member (known (p .usable) .admits) _ _ _ (second (c .before)) in
+    let s = start₁ (sum-of (c .before)) in
+    let p = s .pre in
+    let z = difference-member (known (p .usable) .admits) _ (sum-of (c .before) .sum .given .0 .0) (s .args .a) (second (c .before)) in
     search needs
 
 returns-3 : tie.Need-returns-3

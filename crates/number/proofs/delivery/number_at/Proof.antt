@@ -1,7 +1,6 @@
 -- `number::delivery::number_at` meets its contract.
 use Rattle.theory.proofs.Prelude.{_∙_, ap, sym, arith, ℤ, pos, _+ℤ_, w32, SFits, needs}
 use Rattle.number.proofs.Prelude.{back, known}
-use Rattle.number.specs.Signs.{withSign}
 use Rattle.number.proofs.Values.{emin-admitted, highest-most, number-canonical}
 use Rattle.number.proofs.delivery.number_at.Statement.{statement}
 use Rattle.number.proofs.delivery.number_at.Tie as tie
@@ -17,13 +16,11 @@ exponent-at-requires c κs =
 
 returns : tie.Need-returns
 returns c =
-    let s = c .before .before .before in
+    let s = c .before .before in
     let k = known (s .pre .0) in
-    c .with-sign .ensures
-    ∙ ap
-    (λ (e : ℤ). withSign (record { negative = s .args .negative; significand = s .args .significand; exponent = e }) (s .args .negative))
-    (back (record { sfits = c .before .exponent-at .ok }) ∙ c .before .exponent-at .ensures ∙ ap (λ (e : ℤ). e +ℤ pos (s .args .place)) (back (emin-fits s)))
+    ap (λ (e : ℤ). record { negative = s .args .negative; significand = s .args .significand; exponent = e })
+    (back (record { sfits = c .exponent-at .ok }) ∙ c .exponent-at .ensures ∙ ap (λ (e : ℤ). e +ℤ pos (s .args .place)) (back (emin-fits s)))
     ∙ sym (number-canonical (k .admits) (s .pre .1) (s .args .negative))
 
 pub number-at-spec : {M : Type 1} → statement M
-number-at-spec = tie.close (tie.spec exponent-at-requires (λ c κs. search needs) returns)
+number-at-spec = tie.close (tie.spec exponent-at-requires returns)

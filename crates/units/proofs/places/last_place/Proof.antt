@@ -9,9 +9,9 @@ use Rattle.units.proofs.places.last_place.Tie as tie
 returns : tie.Need-returns
 unfolding ulp
 returns c =
-    let s = c .before .before in
+    let s = c .before .before .before in
     let k = known (s .pre .usable) in
-    zero-place (k .admits) (members _ (k .admits) (s .pre .number)) (ulp (s .args .prepared .format .base) (s .args .prepared .format .digits)) refl (c .if1 .taken)
+    c .with-sign .ensures ∙ zero-place (k .admits) (members _ (k .admits) (s .pre .number)) (ulp (s .args .prepared .format .base) (s .args .prepared .format .digits)) refl (c .before .if1 .taken)
 
 power-number-requires : tie.Need-power-number-requires
 power-number-requires c κs =
@@ -30,4 +30,4 @@ returns-2 c =
     ∙ last-power (k .admits) (members _ (k .admits) (s .pre .number)) (omega (arith, e .if1 .left)))
 
 pub last-place-spec : {M : Type 1} → statement M
-last-place-spec = tie.close (tie.spec returns (λ c κs. search needs) power-number-requires returns-2)
+last-place-spec = tie.close (tie.spec (λ c κs. search needs) returns (λ c κs. search needs) power-number-requires returns-2)

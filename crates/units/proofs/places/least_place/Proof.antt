@@ -10,9 +10,9 @@ use Rattle.units.proofs.places.least_place.Tie as tie
 returns : tie.Need-returns
 unfolding uls
 returns c =
-    let s = c .before .before in
+    let s = c .before .before .before in
     let k = known (s .pre .usable) in
-    zero-place (k .admits) (members _ (k .admits) (s .pre .number)) (uls (s .args .prepared .format .base)) refl (c .if1 .taken)
+    c .with-sign .ensures ∙ zero-place (k .admits) (members _ (k .admits) (s .pre .number)) (uls (s .args .prepared .format .base)) refl (c .before .if1 .taken)
 
 trailing-zeros-requires : tie.Need-trailing-zeros-requires
 trailing-zeros-requires c κs =
@@ -54,4 +54,4 @@ pub least-place-spec : {M : Type 1} → statement M
 least-place-spec =
     tie.close
     (tie.spec
-    returns (λ c κs. search needs) trailing-zeros-requires add-power-number (λ c κs. (start c .pre .usable, room c)) returns-2)
+    (λ c κs. search needs) returns (λ c κs. search needs) trailing-zeros-requires add-power-number (λ c κs. (start c .pre .usable, room c)) returns-2)
