@@ -204,10 +204,15 @@ zurkeb_check_answer zurkeb_is_fast_two_sum(zurkeb_format format, zurkeb_number a
 
 /* The number of a binary32 pattern, in published format 2. Refuses 9. */
 zurkeb_number_answer zurkeb_read_pattern(uint32_t pattern);
-/* The next five calls answer a 64-bit number: the refusal (0 for none) in the upper half, the pattern in the lower, 0 at a refusal. */
+/* The number of a decimal32 pattern in the densely packed form of IEEE 754, clause 3.5, in published format 3. All 1,024 ten-bit groups
+ * are read. Refuses 9. */
+zurkeb_number_answer zurkeb_read_decimal32(uint32_t pattern);
+/* The next six calls answer a 64-bit number: the refusal (0 for none) in the upper half, the pattern in the lower, 0 at a refusal. */
 /* The pattern of a number of published format 2. Refuses 3. */
 uint64_t zurkeb_write_pattern(zurkeb_number x);
-/* Sum, difference, product and quotient of patterns. Refuse 2, 9, 5; the quotient also 4. */
+/* The pattern of a number of published format 3, by its own m and e. Refuses 3. */
+uint64_t zurkeb_write_decimal32(zurkeb_number x);
+/* Sum, difference, product and quotient of binary32 patterns. Refuse 2, 9, 5; the quotient also 4. */
 uint64_t zurkeb_pattern_sum(uint32_t a, uint32_t b, uint32_t direction);
 uint64_t zurkeb_pattern_difference(uint32_t a, uint32_t b, uint32_t direction);
 uint64_t zurkeb_pattern_product(uint32_t a, uint32_t b, uint32_t direction);

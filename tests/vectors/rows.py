@@ -12,12 +12,13 @@ significand, exponent. Below zero is two's complement. Columns that a call does 
   numbers of binary32."""
 import os
 
-FILES = ["binary32_nearest.txt", "binary32_directions.txt", "decimal.txt", "minus_zero.txt", "fractions.txt", "scope.txt"]
+FILES = ["binary32_nearest.txt", "binary32_directions.txt", "decimal.txt", "minus_zero.txt", "decimal32.txt", "fractions.txt", "scope.txt"]
 FLAGGED = ["inexact/binary32_directions.txt", "inexact/decimal.txt"]
 # the operations in the order of their numbers, which is that of `calls` in crates/vectors/specs/Calls.antt
 NUMBERS = ["sum", "diff", "prod", "quot", "frac", "cmp", "abs", "neg", "pred", "succ", "ufp"]
 PATTERNS = ["sum", "diff", "prod", "quot"]
-OPERATIONS = NUMBERS + ["pattern " + name for name in PATTERNS] + ["inexact " + name for name in PATTERNS] + ["steps"]
+DECIMAL32 = ["dread", "dwrite"]
+OPERATIONS = NUMBERS + ["pattern " + name for name in PATTERNS] + ["inexact " + name for name in PATTERNS] + DECIMAL32 + ["steps"]
 BINARY32 = [2, 24, -149, 104]
 NOTHING = [0, 0, 0]
 
@@ -34,6 +35,8 @@ def answer_columns(kind, *words):
         return [0] + values
     if kind == "c":
         return [0, int(values[0] < 0), abs(values[0]), 0]
+    if kind == "p":
+        return [0, 0] + values + [0]
     assert kind == "r"
     return values + NOTHING
 
@@ -45,6 +48,13 @@ def number_row(call, answer):
         operands = [0, 0, operands[0], 0, operands[1], 0]
     operands += NOTHING[: 6 - len(operands)]
     return [OPERATIONS.index(name)] + values[:5] + operands + answer_columns(*answer)
+
+
+def decimal32_row(call, answer):
+    name, operand = call[0], [int(word) for word in call[6:]]
+    if name == "dread":
+        operand = [0] + operand + [0]
+    return [OPERATIONS.index(name), 0, 0, 0, 0, 0] + operand + NOTHING + answer_columns(*answer)
 
 
 def number_of(pattern):
@@ -70,6 +80,8 @@ def row(line):
     arrow = words.index("->")
     if arrow == 4:
         return pattern_row(*words[:4], words[5])
+    if words[0] in DECIMAL32:
+        return decimal32_row(words[:arrow], words[arrow + 1 :])
     return number_row(words[:arrow], words[arrow + 1 :])
 
 

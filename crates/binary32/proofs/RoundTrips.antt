@@ -1,6 +1,6 @@
 -- What is read is in format 2, every finite pattern comes back when it is read and written, and every number of format 2 when it is
 -- written and read.
-use Rattle.theory.proofs.Prelude.{ℕ, _≤_, _<_, _+_, _^_, _*_, _-_, suc, zero, true, false, Bool, cond, not, [], _∷_, ⊎-elim, _∙_, ap, _≡_, refl, ap₂, subst, decLe, arith, eqb, ne-eqb, le-leb, leb-true, lt-leb, leb-false}
+use Rattle.theory.proofs.Prelude.{ℕ, _≤_, _<_, _+_, _^_, _*_, _-_, suc, zero, true, false, Bool, cond, [], _∷_, ⊎-elim, _∙_, ap, _≡_, refl, ap₂, subst, decLe, arith, ne-eqb, le-leb, leb-true, lt-leb, leb-false}
 use Rattle.theory.specs.Lists.{all}
 use Rattle.theory.specs.Tests.{_and_, unless}
 use Rattle.theory.specs.Wide.{Wide}
@@ -10,6 +10,7 @@ use Rattle.theory.proofs.Canonical.{canonical-wide}
 use Rattle.format.specs.Published.{binary32}
 use Rattle.number.specs.declared.Number.{Number}
 use Rattle.format.specs.Given.{gives, refused}
+use Rattle.format.proofs.GivenLaws.{unless-gives}
 use Rattle.number.specs.Numbers.{member, placeOf, magnitude, value, number, greatest}
 use Rattle.number.specs.Checks.{checked}
 use Rattle.number.proofs.Membership.{Member, members, member-made}
@@ -25,12 +26,8 @@ pub record Reads (n : ℕ) (x : Number) : Type 0 where
   pub is : x ≡ numberRead n
 
 pub reads : (n : ℕ) {x : Number} → patternRead n ≡ gives x → Reads n x
-unfolding patternRead unless
-reads n {x} h = by (finite n) refl h
-  where
-    by : (t : Bool) → finite n ≡ t → unless t (refused 9) (gives (numberRead n)) ≡ gives x → Reads n x
-    by true e h = record { finite = e; is = cc }
-    by false e h = absurd (let z : _≡_ {A = ℕ} 0 1 = cc in omega arith)
+unfolding patternRead
+reads n h = let g = unless-gives (finite n) 9 h in record { finite = g .0; is = g .1 }
 
 pub read-made : (n : ℕ) → finite n ≡ true → patternRead n ≡ gives (numberRead n)
 unfolding patternRead
@@ -167,7 +164,7 @@ written-read x h = back x (members x binary32-limits h)
 
 -- ---- zero: 80000000 reads as minus zero, and comes back
 pub minus-zero-read : patternRead (2 ^ 31) ≡ gives (number binary32 true 0)
-unfolding patternRead finite fieldOf numberRead number magnitudeRead signOf fractionOf unless
+unfolding patternRead finite fieldOf numberRead number magnitudeRead fractionOf unless
 minus-zero-read = refl
 
 pub zero-written : patternWritten (numberRead 0) ≡ gives 0

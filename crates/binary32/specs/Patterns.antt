@@ -7,19 +7,14 @@ use lib.IntN.{ℤ}
 use Rattle.theory.specs.Tests.{unless}
 use Rattle.theory.specs.Signed.{signed}
 use Rattle.format.specs.Given.{Given, gives, refused, _then_}
-use Rattle.format.specs.Refusals.{refusalNumber}
 use Rattle.format.specs.Published.{binary32}
 use Rattle.number.specs.declared.Number.{Number}
 use Rattle.number.specs.Numbers.{placeOf, number}
 use Rattle.number.specs.Checks.{checked}
-use Rattle.binary32.specs.declared.PatternAnswer.{PatternAnswer}
-use Rattle.binary32.specs.declared.PatternAnswer.the-variants as pattern
+use Rattle.number.specs.Patterns.{signWeight}
+pub use Rattle.number.specs.Patterns.{signOf}
 
--- ---- the parts of a pattern of 32 bits
--- the sign bit, the highest
-abbrev pub signOf : ℕ → Bool
-signOf n = leb (2 ^ 31) n
-
+-- ---- the parts of a pattern of 32 bits, beside the sign bit
 -- the exponent field, the next 8 bits
 abbrev pub fieldOf : ℕ → ℕ
 fieldOf n = n / 2 ^ 23 % 2 ^ 8
@@ -58,7 +53,7 @@ patternRead n = unless (finite n) (refused 9) (gives (numberRead n))
 -- ---- writing
 -- sign, place and significand; the leading digit of a normal number adds one to the field
 unfoldable pub patternOf : Number → ℕ
-patternOf x = cond (x .negative) (2 ^ 31) 0 + placeOf binary32 x * 2 ^ 23 + x .significand
+patternOf x = signWeight (x .negative) + placeOf binary32 x * 2 ^ 23 + x .significand
 
 -- the answer of write_pattern
 unfoldable pub patternWritten : Number → Given ℕ
@@ -67,11 +62,6 @@ patternWritten x = checked binary32 [] (x ∷ []) (gives (patternOf x))
 -- what is given, with its number written
 abbrev pub answerWritten : Given Number → Given ℕ
 answerWritten g = g then λ x. gives (patternOf x)
-
--- the code's patterns in the papers' terms
-abbrev pub patternGiven : PatternAnswer → Given ℕ
-patternGiven (pattern.Written n) = gives n
-patternGiven (pattern.Refused why) = refused (refusalNumber why)
 
 -- ---- order
 -- a whole number that orders the patterns by their values: 2 ^ 31 more than the pattern as a sign and a number of 31 bits

@@ -2,10 +2,11 @@
 use Prim.Native.Nat.{ℕ}
 use Rattle.format.specs.Given.{Given}
 use Rattle.format.specs.Published.{binary32}
+use Rattle.number.specs.Answers.{patternGiven}
 use Rattle.number.specs.declared.Number.{Number}
 use Rattle.units.specs.Places.{firstPlace, lastPlace}
 use Rattle.units.specs.Neighbours.{predecessorOf, successorOf}
-use Rattle.binary32.specs.Patterns.{answerWritten, patternGiven}
+use Rattle.binary32.specs.Patterns.{answerWritten}
 use Rattle.binary32.specs.declared.places.Places.{Places}
 
 pub record PlacesGiven : Type 0 where

@@ -4,11 +4,3 @@ pub mod order;
 pub mod patterns;
 pub mod places;
 pub mod prepared;
-
-use format::Refusal;
-
-// A pattern, or why there is none.
-pub enum PatternAnswer {
-    Written(u32),
-    Refused(Refusal),
-}

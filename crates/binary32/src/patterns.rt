@@ -1,5 +1,4 @@
 // A pattern read as a number of published format 2, and a number written as a pattern.
-use crate::PatternAnswer;
 use crate::finite::is_finite;
 use crate::prepared::prepared_binary32;
 use format::Preparation;
@@ -8,16 +7,18 @@ use format::Significand;
 use format::admission::distance;
 use number::Number;
 use number::NumberAnswer;
+use number::PatternAnswer;
 use number::checks::with_number;
 use number::delivery::number_at;
+use number::patterns::sign_weight;
 ghost use mathlib.Core.Path.{_≡_};
 ghost use mathlib.Core.Bool.{true, cond};
 ghost use Prim.Native.Nat.{_+_, _-_, _<_, _^_};
 ghost use lib.Dec.{eqb};
 ghost use Rattle.format.specs.Published.{binary32};
-ghost use Rattle.number.specs.Answers.{numberGiven};
+ghost use Rattle.number.specs.Answers.{numberGiven, patternGiven};
 ghost use Rattle.number.specs.Numbers.{member};
-ghost use Rattle.binary32.specs.Patterns.{fieldOf, finite, numberRead, patternRead, patternOf, patternWritten, patternGiven};
+ghost use Rattle.binary32.specs.Patterns.{fieldOf, finite, numberRead, patternRead, patternOf, patternWritten};
 
 // Eight bits of the exponent.
 pub fn field_of(pattern: u32) -> u32
@@ -61,13 +62,6 @@ pub fn read_pattern(pattern: u32) -> NumberAnswer
         return NumberAnswer::Refused(Refusal::NotFinite);
     }
     NumberAnswer::Value(read_finite(pattern))
-}
-
-// The sign bit, the highest.
-fn sign_weight(negative: bool) -> u32
-    ensures { λ r. ⌜ r ≡ cond negative (2 ^ 31) 0 ⌝ }
-{
-    if negative { 2147483648 } else { 0 }
 }
 
 // The pattern of a number of the format: the significand's leading digit adds one to the field.

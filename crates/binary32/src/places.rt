@@ -1,18 +1,19 @@
 // The places and the neighbours of a finite pattern, straight from the pattern: keys are in the order of the values, so that
 // those of neighbours differ by one.
-use crate::PatternAnswer;
 use crate::order::key;
 use crate::order::pattern_of_key;
 use crate::patterns::place_of;
 use crate::prepared::prepared_binary32;
 use format::Refusal;
+use number::PatternAnswer;
 use units::powers_of_base::leading_power;
 ghost use mathlib.Core.Path.{_≡_};
 ghost use mathlib.Core.Bool.{true};
 ghost use Rattle.format.specs.Published.{binary32};
+ghost use Rattle.number.specs.Answers.{patternGiven};
 ghost use Rattle.units.specs.Places.{firstPlace, lastPlace};
 ghost use Rattle.units.specs.Neighbours.{predecessorOf, successorOf};
-ghost use Rattle.binary32.specs.Patterns.{finite, numberRead, answerWritten, patternGiven};
+ghost use Rattle.binary32.specs.Patterns.{finite, numberRead, answerWritten};
 ghost use Rattle.binary32.specs.Places.{placesOf, placesGiven};
 
 // ufp, ulp, predecessor and successor of a number, as patterns.

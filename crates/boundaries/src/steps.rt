@@ -2,7 +2,6 @@
 use crate::Step;
 use crate::StepAnswer;
 use arithmetic::sum::add;
-use binary32::PatternAnswer;
 use binary32::patterns::pattern_of;
 use binary32::patterns::read_finite;
 use binary32::prepared::prepared_binary32;
@@ -11,14 +10,16 @@ use fast_two_sum::StepsAnswer;
 use fast_two_sum::sum::three_steps;
 use number::Number;
 use number::Ordering;
+use number::PatternAnswer;
 use number::order::compare_magnitudes;
 use theory::Direction;
 ghost use mathlib.Core.Path.{_≡_};
 ghost use mathlib.Core.Bool.{true};
 ghost use Rattle.format.specs.Published.{binary32};
+ghost use Rattle.number.specs.Answers.{patternGiven};
 ghost use Rattle.number.specs.Numbers.{member};
 ghost use Rattle.fast_two_sum.specs.Answers.{stepsGiven};
-ghost use Rattle.binary32.specs.Patterns.{finite, patternGiven};
+ghost use Rattle.binary32.specs.Patterns.{finite};
 ghost use Rattle.boundaries.specs.Sums.{threeSum, stripAdded};
 ghost use Rattle.boundaries.specs.Steps.{firstStep};
 

@@ -1,7 +1,6 @@
 // The engine's answers as C sees them, and its numbers as C hands them over. An answer is a struct whose first field is the refusal's
 // number, 0 for none, and whose other fields are zero at a refusal; a verdict or a pattern is a number.
 use arithmetic::RoundedAnswer;
-use binary32::PatternAnswer;
 use binary32_arithmetic::SliceAnswer;
 use boundaries::BoundaryAnswer;
 use fast_two_sum::CheckAnswer;
@@ -15,16 +14,16 @@ use number::Number;
 use number::NumberAnswer;
 use number::OrderAnswer;
 use number::Ordering;
+use number::PatternAnswer;
 use receivers::Calmer;
 use saved_lines::LineAnswer;
 use theory::Mark;
 ghost use mathlib.Core.Path.{_≡_};
 ghost use Rattle.format.specs.Given.{verdictGiven, formatGiven};
-ghost use Rattle.number.specs.Answers.{numberGiven, orderGiven};
+ghost use Rattle.number.specs.Answers.{numberGiven, orderGiven, patternGiven};
 ghost use Rattle.arithmetic.specs.Marked.{roundedGiven};
 ghost use Rattle.fast_two_sum.specs.Answers.{stepsGiven};
 ghost use Rattle.fast_two_sum.specs.Answers.{checkGiven};
-ghost use Rattle.binary32.specs.Patterns.{patternGiven};
 ghost use Rattle.binary32_arithmetic.specs.Slices.{slicesGiven};
 ghost use Rattle.saved_lines.specs.Lines.{lineGiven};
 ghost use Rattle.receivers.specs.Answers.{calmerGiven};

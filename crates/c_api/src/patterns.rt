@@ -1,5 +1,5 @@
-// binary32 patterns and the sum of slices, for C. The pattern calls answer a 64-bit number: the refusal in the upper half, the
-// pattern in the lower.
+// binary32 and decimal32 patterns and the sum of slices, for C. A call that makes a pattern answers a 64-bit number: the refusal in
+// the upper half, the pattern in the lower.
 use crate::answers::CNumber;
 use crate::answers::NumberOut;
 use crate::answers::SlicesOut;
@@ -14,15 +14,18 @@ use binary32_arithmetic::operations::pattern_product;
 use binary32_arithmetic::operations::pattern_quotient;
 use binary32_arithmetic::operations::pattern_sum;
 use binary32_arithmetic::slices::sum_slices;
+use decimal32::reading::read_decimal32;
+use decimal32::writing::write_decimal32;
 ghost use mathlib.Core.Path.{_≡_};
 ghost use Rattle.format.specs.Directions as directions;
 ghost use Rattle.binary32.specs.Patterns.{patternRead, patternWritten};
 ghost use Rattle.binary32_arithmetic.specs.Calls.{patternCall};
 ghost use Rattle.binary32_arithmetic.specs.declared.Operation.the-variants.{Sum, Difference, Product, Quotient};
 ghost use Rattle.binary32_arithmetic.specs.Slices.{sums, slicesAnswer, slicesWritten};
+ghost use Rattle.decimal32.specs.Patterns.{decimal32Read, decimal32Written};
 ghost use Rattle.c_api.specs.Answers.{numberIn, numberOut, patternOut, slicesOut};
 
-// The number of a pattern. Refuses 9.
+// The number of a binary32 pattern. Refuses 9.
 #[no_mangle]
 pub extern "C" fn zurkeb_read_pattern(pattern: u32) -> NumberOut
     ensures { λ r. ⌜ r ≡ numberOut (patternRead pattern) ⌝ }
@@ -30,12 +33,28 @@ pub extern "C" fn zurkeb_read_pattern(pattern: u32) -> NumberOut
     number_out(read_pattern(pattern))
 }
 
-// The pattern of a number. Refuses 3.
+// The binary32 pattern of a number. Refuses 3.
 #[no_mangle]
 pub extern "C" fn zurkeb_write_pattern(x: CNumber) -> u64
     ensures { λ r. ⌜ r ≡ patternOut (patternWritten (numberIn x)) ⌝ }
 {
     pattern_out(write_pattern(number_in(x)))
+}
+
+// The number of a decimal32 pattern. Refuses 9.
+#[no_mangle]
+pub extern "C" fn zurkeb_read_decimal32(pattern: u32) -> NumberOut
+    ensures { λ r. ⌜ r ≡ numberOut (decimal32Read pattern) ⌝ }
+{
+    number_out(read_decimal32(pattern))
+}
+
+// The decimal32 pattern of a number. Refuses 3.
+#[no_mangle]
+pub extern "C" fn zurkeb_write_decimal32(x: CNumber) -> u64
+    ensures { λ r. ⌜ r ≡ patternOut (decimal32Written (numberIn x)) ⌝ }
+{
+    pattern_out(write_decimal32(number_in(x)))
 }
 
 // a + b. Refuses 2, 9, 5.

@@ -1,5 +1,6 @@
 -- What a call gives is one thing: values are no refusal.
-use Rattle.theory.proofs.Prelude.{ℕ, _≡_, arith}
+use Rattle.theory.proofs.Prelude.{ℕ, true, false, Bool, _≡_, refl, arith}
+use Rattle.theory.specs.Tests.{unless}
 use Rattle.format.specs.Given.{gives, refused, refusedAt}
 
 pub gives-same : {A : Type 0} {x y : A} → gives x ≡ gives y → x ≡ y
@@ -10,3 +11,9 @@ gives-not-refused h = let z : _≡_ {A = ℕ} 0 1 = cc in omega arith
 
 pub gives-not-refused-at : {A : Type 0} {x : A} {n i : ℕ} → gives x ≡ refusedAt n i → ⊥
 gives-not-refused-at h = let z : _≡_ {A = ℕ} 0 1 = cc in omega arith
+
+-- what is given after a test that may refuse
+pub unless-gives : {A : Type 0} (t : Bool) (n : ℕ) {x y : A} → unless t (refused n) (gives x) ≡ gives y → (t ≡ true) × (y ≡ x)
+unfolding unless
+unless-gives true n h = (refl, cc)
+unless-gives false n h = absurd (let z : _≡_ {A = ℕ} 0 1 = cc in omega arith)

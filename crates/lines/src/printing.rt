@@ -2,14 +2,14 @@
 // position after what it stored.
 use crate::digits::LETTERS;
 use crate::reading::Line;
-use binary32::PatternAnswer;
 use binary32::finite::is_finite;
 use binary32::places::Places;
 use binary32::places::places_of;
+use number::PatternAnswer;
 ghost use mathlib.Core.List.{[], _∷_, _++_};
 ghost use Prim.Native.Nat.{_+_, _≤_};
 ghost use lib.ListN.{length};
-ghost use Rattle.binary32.specs.Patterns.{patternGiven};
+ghost use Rattle.number.specs.Answers.{patternGiven};
 ghost use Rattle.binary32.specs.Places.{placesGiven};
 ghost use Rattle.lines.specs.Printing.{Put, fieldText, fields, spaced, patternText, textOf, lineFeed};
 

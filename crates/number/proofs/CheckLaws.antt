@@ -198,6 +198,11 @@ prepared-entered f = go (admitted f)
     go true = refl
     go false = refl
 
+-- and a prepared one that is known to be admitted
+pub ready-entered : {f : Format} {q : Prepared} → admitted f ≡ true → q ≡ preparedOf f → Ready q ≡ entered f [] []
+unfolding preparation
+ready-entered {f} h e = ap Ready e ∙ sym (unless-passed _ _ h) ∙ prepared-entered f
+
 -- check_format is the check with no direction and no number
 pub format-checked : (f : Format) → formatChecked f ≡ checked f [] [] (gives tt)
 unfolding formatChecked checked all unless

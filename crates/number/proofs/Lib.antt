@@ -7,3 +7,4 @@ pub mod Comparison
 pub mod Compared
 pub mod Negation
 pub mod AnswerLaws
+pub mod PatternLaws

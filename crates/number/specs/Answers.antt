@@ -1,9 +1,12 @@
 -- The answers of this crate in the papers' terms.
+use Prim.Native.Nat.{ℕ}
 use Rattle.format.specs.Given.{Given, gives, refused}
 use Rattle.format.specs.Refusals.{refusalNumber}
 use Rattle.number.specs.declared.Number.{Number}
 use Rattle.number.specs.declared.NumberAnswer.{NumberAnswer}
 use Rattle.number.specs.declared.NumberAnswer.the-variants as number
+use Rattle.number.specs.declared.PatternAnswer.{PatternAnswer}
+use Rattle.number.specs.declared.PatternAnswer.the-variants as pattern
 use Rattle.number.specs.declared.Ordering.{Ordering}
 use Rattle.number.specs.declared.OrderAnswer.{OrderAnswer}
 use Rattle.number.specs.declared.OrderAnswer.the-variants as order
@@ -11,6 +14,10 @@ use Rattle.number.specs.declared.OrderAnswer.the-variants as order
 abbrev pub numberGiven : NumberAnswer → Given Number
 numberGiven (number.Value x) = gives x
 numberGiven (number.Refused why) = refused (refusalNumber why)
+
+abbrev pub patternGiven : PatternAnswer → Given ℕ
+patternGiven (pattern.Written n) = gives n
+patternGiven (pattern.Refused why) = refused (refusalNumber why)
 
 abbrev pub orderGiven : OrderAnswer → Given Ordering
 orderGiven (order.Ordered o) = gives o

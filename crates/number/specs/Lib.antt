@@ -5,3 +5,4 @@ pub mod Numbers
 pub mod Checks
 pub mod Order
 pub mod Signs
+pub mod Patterns

@@ -1,9 +1,11 @@
-// Numbers of a format: which are in it, the checks that every call begins with, comparison, negation and magnitude.
+// Numbers of a format: which are in it, the checks that every call begins with, comparison, negation and magnitude; what the patterns
+// of every format share.
 pub mod checks;
 pub mod delivery;
 pub mod exponents;
 pub mod members;
 pub mod order;
+pub mod patterns;
 pub mod signs;
 
 use format::Refusal;
@@ -20,6 +22,12 @@ pub struct Number {
 // A number, or why there is none.
 pub enum NumberAnswer {
     Value(Number),
+    Refused(Refusal),
+}
+
+// A pattern of 32 bits, or why there is none.
+pub enum PatternAnswer {
+    Written(u32),
     Refused(Refusal),
 }
 

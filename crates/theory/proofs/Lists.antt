@@ -2,7 +2,7 @@
 use Rattle.theory.proofs.Prelude.{ℕ, _≤_, _<_, _+_, _-_, suc, zero, true, false, Bool, cond, [], _∷_, List, ⊎-elim, _∙_, ap, _≡_, sym, refl, subst, decLe, eq-or-lt-of-le, arith, length, getD, le-leb, leb-true}
 use Rattle.theory.specs.Tests.{_and_, _or_}
 use Rattle.theory.proofs.Tests.{never, and-left, and-right, and-made}
-use Rattle.theory.specs.Lists.{all, firstWhere, none, someNeighbours}
+use Rattle.theory.specs.Lists.{all, firstWhere, none, someNeighbours, numbers}
 
 module _ {A : Type 0} (test : A → Bool) (d : A) where
   -- the position that passes, where none before it does
@@ -150,3 +150,18 @@ neighbours-more {P} i h before here k l = ⊎-elim (λ e. subst P (last e) here)
 
     last : suc k ≡ i → i - 1 ≡ k
     last e = omega arith
+
+-- ---- a test that is computed at every number below n says the same of each
+numbers-length : (i n : ℕ) → length (numbers i n) ≡ n
+numbers-length i zero = refl
+numbers-length i (suc n) = ap suc (numbers-length (suc i) n)
+
+numbers-at : (i n k : ℕ) → k < n → getD (numbers i n) k 0 ≡ i + k
+numbers-at i zero k h = absurd (omega arith)
+numbers-at i (suc n) zero h = omega arith
+numbers-at i (suc n) (suc k) h = let later = numbers-at (suc i) n k (omega arith) in omega arith
+
+pub at-number : (test : ℕ → Bool) (n : ℕ) → all test (numbers 0 n) ≡ true → (k : ℕ) → k < n → test k ≡ true
+at-number test n e k h =
+    let place : getD (numbers 0 n) k 0 ≡ k = omega (arith, numbers-at 0 n k h) in
+    subst (λ (i : ℕ). test i ≡ true) place (all-at test 0 (numbers 0 n) e k (omega (arith, numbers-length 0 n)))

@@ -1,5 +1,6 @@
--- A list and a test: whether every entry passes, the first that does, and whether some entry passes with the one after it.
-use Prim.Native.Nat.{ℕ, suc}
+-- A list and a test: whether every entry passes, the first that does, and whether some entry passes with the one after it; the numbers of
+-- a range as a list, for tests that are computed.
+use Prim.Native.Nat.{ℕ, zero, suc}
 use mathlib.Core.Bool.{Bool, true, false, cond}
 use mathlib.Core.List.{List, [], _∷_}
 use lib.Dec.{leb}
@@ -25,3 +26,8 @@ unfoldable pub someNeighbours : {A : Type 0} → (A → A → Bool) → List A �
 someNeighbours test [] = false
 someNeighbours test (x ∷ []) = false
 someNeighbours test (x ∷ y ∷ xs) = test x y or someNeighbours test (y ∷ xs)
+
+-- i and the n - 1 numbers after it
+abbrev pub numbers : (i n : ℕ) → List ℕ
+numbers i zero = []
+numbers i (suc n) = i ∷ numbers (suc i) n

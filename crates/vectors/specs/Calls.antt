@@ -20,6 +20,7 @@ use Rattle.fast_two_sum.specs.declared.Steps.{Steps}
 use Rattle.fast_two_sum.specs.Calls.{fastTwoSum}
 use Rattle.binary32_arithmetic.specs.declared.Operation.the-variants.{Sum, Difference, Product, Quotient}
 use Rattle.binary32_arithmetic.specs.Calls.{patternCall}
+use Rattle.decimal32.specs.Patterns.{decimal32Read, decimal32Written}
 
 -- ---- answers that are no numbers, as numbers
 abbrev pub whole : (negative : Bool) (n : ℕ) → Number
@@ -68,8 +69,10 @@ calls f d a b =
     ∷ inexactWhole (differenceAnswer f d a b)
     ∷ inexactWhole (productAnswer f d a b)
     ∷ inexactWhole (quotientAnswer f d a b)
+    ∷ decimal32Read (a .significand)
+    ∷ patternNumber (decimal32Written a)
     ∷ []
 
--- what the operation with this number answers: from 19 on, the three-step sum
+-- what the operation with this number answers: from 21 on, the three-step sum
 unfoldable pub answerOf : (operation : ℕ) → Format → (d : ℕ) (a b : Number) → Given Number
 answerOf operation f d a b = getD (calls f d a b) operation (firstOfSteps (fastTwoSum f d d d a b))

@@ -1,8 +1,9 @@
 // The calls of the rows.
 use arithmetic::RoundedAnswer;
 use arithmetic::operands::unmarked;
-use binary32::PatternAnswer;
 use binary32_arithmetic::operations;
+use decimal32::reading::read_decimal32;
+use decimal32::writing::write_decimal32;
 use fast_two_sum::StepsAnswer;
 use fast_two_sum::sum::fast_two_sum;
 use format::Format;
@@ -10,14 +11,14 @@ use number::Number;
 use number::NumberAnswer;
 use number::OrderAnswer;
 use number::Ordering;
+use number::PatternAnswer;
 use theory::Mark;
 ghost use mathlib.Core.Path.{_≡_};
 ghost use mathlib.Core.Bool.{true, false};
-ghost use Rattle.number.specs.Answers.{numberGiven, orderGiven};
+ghost use Rattle.number.specs.Answers.{numberGiven, orderGiven, patternGiven};
 ghost use Rattle.theory.specs.Marks.{inexact};
 ghost use Rattle.arithmetic.specs.Marked.{roundedGiven};
 ghost use Rattle.fast_two_sum.specs.Answers.{stepsGiven};
-ghost use Rattle.binary32.specs.Patterns.{patternGiven};
 ghost use Rattle.vectors.specs.Calls.{whole, wholeOrder, patternNumber, inexactWhole, firstOfSteps, answerOf};
 
 // A whole number.
@@ -118,6 +119,8 @@ pub fn answer_of(operation: u32, format: Format, d: u32, a: Number, b: Number) -
         16 => inexact_number(arithmetic::sum::difference(format, d, a, b)),
         17 => inexact_number(arithmetic::product::product(format, d, a, b)),
         18 => inexact_number(arithmetic::quotient::quotient(format, d, a, b)),
+        19 => read_decimal32(m),
+        20 => pattern_number(write_decimal32(a)),
         _ => first_step(fast_two_sum(format, d, d, d, a, b)),
     }
 }

@@ -1,11 +1,12 @@
 -- `binary32::patterns::pattern_of` meets its contract: the place is at most 253.
-use Rattle.theory.proofs.Prelude.{_≤_, _<_, _^_, true, false, Bool, cond, _∙_, ap, _≡_, arith, ℤ, natAbs, _-ℤ_, negsuc, w32, SFits, needs}
+use Rattle.theory.proofs.Prelude.{_≤_, _<_, _^_, _∙_, ap, _≡_, arith, ℤ, natAbs, _-ℤ_, negsuc, w32, SFits, needs}
 use Rattle.format.specs.Published.{binary32}
 use Rattle.format.proofs.Signed.{back}
-use Rattle.format.proofs.Formats.{exponents-made}
 use Rattle.number.specs.Numbers.{placeOf}
+use Rattle.number.specs.Patterns.{signWeight}
 use Rattle.number.proofs.Membership.{Member, members}
-use Rattle.number.proofs.Values.{member-highest}
+use Rattle.number.proofs.Values.{member-highest, member-exponents}
+use Rattle.number.proofs.PatternLaws.{sign-most}
 use Rattle.binary32.specs.Patterns.{patternOf}
 use Rattle.binary32.proofs.Fields.{binary32-limits}
 use Rattle.binary32.proofs.patterns.pattern_of.Statement.{statement}
@@ -27,17 +28,11 @@ place-most c = omega (arith, place-is c, member-highest binary32-limits (inside 
 significand-most : (c : tie.Start) → c .args .x .significand < 2 ^ 24
 significand-most c = inside c .significand-high
 
-sign-is : (c : tie.After-sign-weight) → c .sign-weight .result ≡ cond (c .before .before .before .args .x .negative) (2 ^ 31) 0
+sign-is : (c : tie.After-sign-weight) → c .sign-weight .result ≡ signWeight (c .before .before .before .args .x .negative)
 sign-is c = c .sign-weight .ensures
 
-sign-most : (s : Bool) → cond s (2 ^ 31) 0 ≤ 2 ^ 31
-sign-most true = omega arith
-sign-most false = omega arith
-
 distance-requires : tie.Need-distance-requires
-distance-requires c κs =
-    let i = inside (c .before) in
-    rw (back (exponent-fits (c .before))) (exponents-made (record { emin-low = omega arith; emin-emax = i .exponent-low; emax-high = omega (arith, i .exponent-high) }))
+distance-requires c κs = rw (back (exponent-fits (c .before))) (member-exponents binary32-limits (inside (c .before)))
 
 add-result : tie.Need-add-result
 add-result c = let d = c .before in record { fits = omega (arith, sign-is c, sign-most (d .before .before .args .x .negative), place-most d) }

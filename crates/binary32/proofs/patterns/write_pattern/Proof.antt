@@ -1,25 +1,16 @@
 -- `binary32::patterns::write_pattern` meets its contract.
 use Rattle.theory.proofs.Prelude.{[], _∷_, _∙_, ap, _≡_, sym, needs}
-use Rattle.format.specs.declared.Prepared.{Prepared}
-use Rattle.format.specs.declared.Preparation.the-variants.{Ready}
-use Rattle.format.specs.Formats.{preparedOf, preparation}
 use Rattle.format.specs.Given.{gives}
 use Rattle.format.specs.Published.{binary32}
-use Rattle.theory.proofs.Tests.{unless-passed}
 use Rattle.number.specs.Checks.{entered}
-use Rattle.number.proofs.CheckLaws.{passed, one-member, prepared-entered, number-after, goes-on, ends}
+use Rattle.number.proofs.CheckLaws.{passed, one-member, ready-entered, number-after, goes-on, ends}
 use Rattle.binary32.specs.Patterns.{patternWritten}
 use Rattle.binary32.proofs.Fields.{binary32-admitted}
 use Rattle.binary32.proofs.patterns.write_pattern.Statement.{statement}
 use Rattle.binary32.proofs.patterns.write_pattern.Tie as tie
 
--- format 2 is ready
-ready : {q : Prepared} → q ≡ preparedOf binary32 → Ready q ≡ entered binary32 [] []
-unfolding preparation
-ready e = ap Ready e ∙ sym (unless-passed _ _ binary32-admitted) ∙ prepared-entered binary32
-
 checked : (c : tie.After-with-number) → c .with-number .result ≡ entered binary32 [] (c .before .before .args .x ∷ [])
-checked c = c .with-number .ensures ∙ number-after _ _ _ _ (ready (c .before .prepared-binary32 .ensures))
+checked c = c .with-number .ensures ∙ number-after _ _ _ _ (ready-entered binary32-admitted (c .before .prepared-binary32 .ensures))
 
 returns : tie.Need-returns
 unfolding patternWritten

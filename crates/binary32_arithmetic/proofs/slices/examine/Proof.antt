@@ -1,7 +1,7 @@
 -- `binary32_arithmetic::slices::examine` meets its contract.
 use Rattle.theory.proofs.Prelude.{_∙_, ap, sym, needs, ltb-true}
 use Rattle.theory.proofs.Tests.{and-left, and-right}
-use Rattle.binary32.specs.Patterns.{patternGiven}
+use Rattle.number.specs.Answers.{patternGiven}
 use Rattle.binary32_arithmetic.specs.Slices.{passes}
 use Rattle.binary32_arithmetic.proofs.Halves.{halves-pass}
 use Rattle.binary32_arithmetic.proofs.slices.examine.Statement.{statement}

@@ -1,11 +1,11 @@
 -- `boundaries::sum::first_too_large` meets its contract: the strips that were added and the steps that are left, from x on, are as many
 -- as all.
 use Rattle.theory.proofs.Prelude.{ℕ, _≤_, _<_, _+_, _-_, suc, true, _∙_, ap, _≡_, sym, arith, length, getD, drop, needs}
+use Rattle.number.specs.Answers.{patternGiven}
 use Rattle.binary32.specs.Patterns.{finite}
 use Rattle.binary32.proofs.PatternValues.{all-finite}
 use Rattle.boundaries.specs.Sums.{stepsFrom, boundarySteps}
 use Rattle.boundaries.proofs.Growth.{small-added}
-use Rattle.binary32.specs.Patterns.{patternGiven}
 use Rattle.boundaries.proofs.StepLaws.{first-added, first-refused}
 use Rattle.boundaries.proofs.Passes.{count-begin, count-goes-on, count-stops, count-ends}
 use Rattle.boundaries.proofs.sum.first_too_large.Statement.{statement}

@@ -1,8 +1,8 @@
 -- `c_api::answers::pattern_out` meets its contract.
 use Rattle.theory.proofs.Prelude.{ℕ, _∙_, ap, sym, needs}
 use Rattle.format.specs.Given.{refused}
-use Rattle.binary32.specs.declared.PatternAnswer.{PatternAnswer}
-use Rattle.binary32.specs.Patterns.{patternGiven}
+use Rattle.number.specs.Answers.{patternGiven}
+use Rattle.number.specs.declared.PatternAnswer.{PatternAnswer}
 use Rattle.c_api.specs.Answers.{patternOut}
 use Rattle.c_api.proofs.answers.pattern_out.Statement.{statement}
 use Rattle.c_api.proofs.answers.pattern_out.Tie as tie

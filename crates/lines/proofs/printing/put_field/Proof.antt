@@ -1,8 +1,8 @@
 -- `lines::printing::put_field` meets its contract.
 use Rattle.theory.proofs.Prelude.{ℕ, _/_, [], _∷_, _++_, _∙_, ap, _≡_, sym, arith, needs}
 use native.Mathlib.Nat.{div-one}
-use Rattle.binary32.specs.declared.PatternAnswer.{PatternAnswer}
-use Rattle.binary32.specs.Patterns.{patternGiven}
+use Rattle.number.specs.Answers.{patternGiven}
+use Rattle.number.specs.declared.PatternAnswer.{PatternAnswer}
 use Rattle.lines.specs.Digits.{lowDigits}
 use Rattle.lines.specs.Printing.{fieldText}
 use Rattle.lines.proofs.DigitLaws.{letter, letter-is}

@@ -1,7 +1,6 @@
 -- `vectors::calls::answer_of` meets its contract.
-use Rattle.theory.proofs.Prelude.{needs, arith, ℕ, zero, suc, _≤_, _≡_, sym, ap, _∙_}
+use Rattle.theory.proofs.Prelude.{ℕ, _≤_, suc, zero, _∙_, ap, _≡_, sym, arith, ℤ, w32, SFits, needs}
 use Rattle.format.proofs.Signed.{back}
-use Rattle.theory.proofs.Prelude.{ℤ, w32, SFits}
 use lib.ListN.{List·getD-eq-default}
 use Rattle.format.specs.declared.Format.{Format}
 use Rattle.format.specs.Given.{Given}
@@ -24,7 +23,7 @@ none-below : (n k : ℕ) → NoneBelow n k → k ≤ n
 none-below n zero r = omega arith
 none-below n (suc k) r = let l = none-below n k (r .0) in let d = r .1 in omega arith
 
-past : (operation : ℕ) → 19 ≤ operation → (f : Format) (d : ℕ) (a b : Number) → firstOfSteps (fastTwoSum f d d d a b) ≡ answerOf operation f d a b
+past : (operation : ℕ) → 21 ≤ operation → (f : Format) (d : ℕ) (a b : Number) → firstOfSteps (fastTwoSum f d d d a b) ≡ answerOf operation f d a b
 unfolding answerOf
 past operation h f d a b = sym (List·getD-eq-default (calls f d a b) (firstOfSteps (fastTwoSum f d d d a b)) {n = operation} h)
 
@@ -52,6 +51,7 @@ answer-of-spec =
     (λ c κs. search needs) (λ c κs. search needs) (λ c κs. search needs) (λ c κs. search needs) (λ c κs. search needs)
     (λ c κs. search needs) (λ c κs. search needs) (λ c κs. search needs) (λ c κs. search needs) (λ c κs. search needs)
     (λ c κs. search needs) (λ c κs. search needs) (λ c κs. search needs) (λ c κs. search needs) (λ c κs. search needs)
+    (λ c κs. search needs) (λ c κs. search needs) (λ c κs. search needs)
     (λ c. known (c .before .before .match .keys1) _ _ _ _ (c .unmarked .ensures ∙ ap withoutMark (c .before .sum .ensures)))
     (λ c. known (c .before .before .match .keys2) _ _ _ _ (c .unmarked2 .ensures ∙ ap withoutMark (c .before .difference .ensures)))
     (λ c. known (c .before .before .match .keys3) _ _ _ _ (c .unmarked3 .ensures ∙ ap withoutMark (c .before .product .ensures)))
@@ -68,4 +68,6 @@ answer-of-spec =
     (λ c. known (c .before .before .match .keys17) _ _ _ _ (c .inexact-number2 .ensures ∙ ap inexactWhole (c .before .difference2 .ensures)))
     (λ c. known (c .before .before .match .keys18) _ _ _ _ (c .inexact-number3 .ensures ∙ ap inexactWhole (c .before .product2 .ensures)))
     (λ c. known (c .before .before .match .keys19) _ _ _ _ (c .inexact-number4 .ensures ∙ ap inexactWhole (c .before .quotient2 .ensures)))
-    (λ c. c .first-step .ensures ∙ ap firstOfSteps (c .before .fast-two-sum .ensures) ∙ past _ (none-below _ 19 (c .before .before .match .rest)) _ _ _ _))
+    (λ c. known (c .before .match .keys20) _ _ _ _ (c .read-decimal32 .ensures))
+    (λ c. known (c .before .before .match .keys21) _ _ _ _ (c .pattern-number5 .ensures ∙ ap patternNumber (c .before .write-decimal32 .ensures)))
+    (λ c. c .first-step .ensures ∙ ap firstOfSteps (c .before .fast-two-sum .ensures) ∙ past _ (none-below _ 21 (c .before .before .match .rest)) _ _ _ _))

@@ -1,8 +1,8 @@
 -- `vectors::calls::pattern_number` meets its contract.
 use Rattle.theory.proofs.Prelude.{needs, sym, ap, _∙_}
 use Rattle.format.specs.Given.{gives}
-use Rattle.binary32.specs.declared.PatternAnswer.{PatternAnswer}
-use Rattle.binary32.specs.Patterns.{patternGiven}
+use Rattle.number.specs.Answers.{patternGiven}
+use Rattle.number.specs.declared.PatternAnswer.{PatternAnswer}
 use Rattle.vectors.specs.Calls.{patternNumber}
 use Rattle.vectors.proofs.calls.pattern_number.Statement.{statement}
 use Rattle.vectors.proofs.calls.pattern_number.Tie as tie

@@ -1,0 +1,13 @@
+// decimal32 patterns in densely packed form, IEEE 754 clause 3.5: a sign bit, a combination field of 11 bits, two declets.
+pub mod declets;
+pub mod prepared;
+pub mod reading;
+pub mod writing;
+
+use format::Significand;
+
+// A significand at a place: significand * 10^place in units of 10^-101.
+pub struct Placed {
+    pub significand: Significand,
+    pub place: u32,
+}
