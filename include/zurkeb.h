@@ -180,12 +180,14 @@ zurkeb_number_answer zurkeb_uls(zurkeb_format format, zurkeb_number x);
 zurkeb_number_answer zurkeb_predecessor(zurkeb_format format, zurkeb_number x);
 zurkeb_number_answer zurkeb_successor(zurkeb_format format, zurkeb_number x);
 
-/* The exact result, rounded once in the direction. Refuse 1, 2, 3, 5; the quotient also 4. */
+/* The exact result, rounded once in the direction. An exact sum of zero is plus zero, in direction 4 minus zero, unless both numbers have
+ * one sign, which zero keeps; a difference is the sum with b negated. A product or quotient has the signs' exclusive or, at zero too.
+ * Refuse 1, 2, 3, 5; the quotient also 4. */
 zurkeb_rounded_answer zurkeb_sum(zurkeb_format format, uint32_t direction, zurkeb_number a, zurkeb_number b);
 zurkeb_rounded_answer zurkeb_difference(zurkeb_format format, uint32_t direction, zurkeb_number a, zurkeb_number b);
 zurkeb_rounded_answer zurkeb_product(zurkeb_format format, uint32_t direction, zurkeb_number a, zurkeb_number b);
 zurkeb_rounded_answer zurkeb_quotient(zurkeb_format format, uint32_t direction, zurkeb_number a, zurkeb_number b);
-/* numerator / denominator, two whole numbers, rounded once in the direction. Refuses 1, 2, 4, 5. */
+/* numerator / denominator, two whole numbers, rounded once in the direction, with the sign of the numerator. Refuses 1, 2, 4, 5. */
 zurkeb_rounded_answer zurkeb_fraction(zurkeb_format format, uint32_t direction, int32_t numerator, uint32_t denominator);
 
 /* Rump's routes by the operations alone: the first place by figure 1, the last place by figures 3, 4 and 5. Where the premise
