@@ -95,7 +95,7 @@ static void against_peer(const peer *p, const setting *in) {
         printf("\n%s is not installed (Debian %s): left out\n", p->name, p->package);
         return;
     }
-    p->prepare(in->pairs);
+    p->prepare(in->format, in->pairs);
     printf("\n| %s | ns | median | %s ns | median | ratio |\n|---|---|---|---|---|---|\n", in->name, p->name);
     for (int operation = 0; operation < OPERATIONS; operation++) {
         our_work ours = {(enum operation)operation, in};
@@ -257,17 +257,21 @@ static void all_patterns(const setting *in) {
 int main(void) {
     static setting settings[] = {{.name = "binary, 24 digits"},
                                  {.name = "decimal32"},
+                                 {.name = "binary64"},
+                                 {.name = "decimal64"},
                                  {"base 3, 19 digits", {3, 19, -100, 100}, {{{0}, {0}}}},
                                  {"base 16, 7 digits", {16, 7, -100, 100}, {{{0}, {0}}}},
                                  {"base 100, 4 digits", {100, 4, -100, 100}, {{{0}, {0}}}},
                                  {"base 256, 3 digits", {256, 3, -100, 100}, {{{0}, {0}}}}};
     enum { count = sizeof settings / sizeof *settings };
-    settings[0].format = zurkeb_published(2).format;
-    settings[1].format = zurkeb_published(3).format;
+    for (int s = 0; s < 4; s++)
+        settings[s].format = zurkeb_published((uint32_t)s + 2).format;
     for (int s = 0; s < count; s++)
         draw_pairs(settings[s].format, settings[s].pairs);
     against_peer(&mpfr_peer, &settings[0]);
     against_peer(&intel_peer, &settings[1]);
+    against_peer(&mpfr_peer, &settings[2]);
+    against_peer(&intel64_peer, &settings[3]);
     all_formats(settings, count);
     printf("\n| fractions | ns | median | quotient ns | median | ratio |\n|---|---|---|---|---|---|\n");
     for (int s = 0; s < count; s++)

@@ -1,7 +1,8 @@
-/* MPFR as a peer: precision 24 and the exponents of binary32, subnormal numbers by mpfr_subnormalize. */
+/* MPFR as a peer: the digits and exponents of a binary format, subnormal numbers by mpfr_subnormalize. */
 #include "peers.h"
 
 #ifdef HAVE_MPFR
+#define MPFR_USE_INTMAX_T
 #include <mpfr.h>
 
 typedef int (*mpfr_call)(mpfr_ptr, mpfr_srcptr, mpfr_srcptr, mpfr_rnd_t);
@@ -12,22 +13,29 @@ static const mpfr_call calls[OPERATIONS] = {mpfr_add, mpfr_mul, mpfr_div};
 static const mpfr_rnd_t modes[5] = {MPFR_RNDN, MPFR_RNDF, MPFR_RNDZ, MPFR_RNDU, MPFR_RNDD};
 
 static void read_number(mpfr_ptr to, zurkeb_number x) {
-    mpfr_set_ui_2exp(to, x.significand, x.exponent, MPFR_RNDN);
+    mpfr_set_uj_2exp(to, x.significand, x.exponent, MPFR_RNDN);
     if (x.negative)
         mpfr_neg(to, to, MPFR_RNDN);
 }
 
-/* MPFR's significand lies from 1/2 to 1, so that 2^-149 has the exponent -148. */
-static void prepare(const pair pairs[PAIRS]) {
-    mpfr_set_default_prec(24);
-    mpfr_set_emin(-148);
-    mpfr_set_emax(128);
-    mpfr_inits(result, ours_read, (mpfr_ptr)0);
+/* MPFR's significand lies from 1/2 to 1, so that 2^emin has the exponent emin + 1. */
+static void prepare(zurkeb_format f, const pair pairs[PAIRS]) {
+    static bool made;
+    mpfr_set_emin(f.emin + 1);
+    mpfr_set_emax(f.emax + (int32_t)f.digits);
+    if (!made)
+        mpfr_inits(result, ours_read, (mpfr_ptr)0);
+    mpfr_set_prec(result, f.digits);
+    mpfr_set_prec(ours_read, f.digits);
     for (int i = 0; i < PAIRS; i++) {
-        mpfr_inits(left[i], right[i], (mpfr_ptr)0);
+        if (!made)
+            mpfr_inits(left[i], right[i], (mpfr_ptr)0);
+        mpfr_set_prec(left[i], f.digits);
+        mpfr_set_prec(right[i], f.digits);
         read_number(left[i], pairs[i].a);
         read_number(right[i], pairs[i].b);
     }
+    made = true;
 }
 
 static uint64_t pass(const void *what) {

@@ -17,31 +17,34 @@ static int32_t between(int32_t low, int32_t high) {
     return low + (int32_t)(random32() % (uint32_t)(high - low + 1));
 }
 
+static uint64_t random64(void) {
+    return (uint64_t)random32() << 32 | random32();
+}
+
 /* base^count. */
-static uint32_t power(uint32_t base, uint32_t count) {
-    uint32_t result = 1;
+static uint64_t power(uint32_t base, uint32_t count) {
+    uint64_t result = 1;
     while (count-- > 0)
         result *= base;
     return result;
 }
 
 static zurkeb_number normal(zurkeb_format f, int32_t size) {
-    uint32_t full = power(f.base, f.digits - 1);
-    uint32_t rest = random32() % (full * (f.base - 1));
-    return (zurkeb_number){random32() & 1, full + rest, size - (int32_t)f.digits + 1};
+    uint64_t full = power(f.base, f.digits - 1), rest = random64() % (full * (f.base - 1));
+    return (zurkeb_number){full + rest, size - (int32_t)f.digits + 1, random32() & 1};
 }
 
 /* A number below the normal ones, with any number of digits. */
 static zurkeb_number subnormal(zurkeb_format f) {
-    uint32_t limit = power(f.base, (uint32_t)between(1, (int32_t)f.digits - 1));
-    return (zurkeb_number){random32() & 1, 1 + random32() % (limit - 1), f.emin};
+    uint64_t limit = power(f.base, (uint32_t)between(1, (int32_t)f.digits - 1));
+    return (zurkeb_number){1 + random64() % (limit - 1), f.emin, random32() & 1};
 }
 
 /* a with the other sign and a few units of the last place more or less. */
 static zurkeb_number cancelling(zurkeb_format f, zurkeb_number a) {
-    uint32_t full = power(f.base, f.digits - 1), change = random32() % 256;
-    uint32_t m = a.significand - full > change ? a.significand - change : a.significand;
-    return (zurkeb_number){!a.negative, m, a.exponent};
+    uint64_t full = power(f.base, f.digits - 1), change = random32() % 256;
+    uint64_t m = a.significand - full > change ? a.significand - change : a.significand;
+    return (zurkeb_number){m, a.exponent, !a.negative};
 }
 
 /* A subnormal number beside another or beside a moderate one, or two normal numbers whose product is subnormal. */

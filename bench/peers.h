@@ -1,4 +1,4 @@
-/* The peers: MPFR for binary with 24 digits, Intel's decimal library for decimal32. Where one is not installed, its `installed` is
+/* The peers: MPFR for binary formats, Intel's decimal library for decimal32 and decimal64. Where one is not installed, its `installed` is
  * false and nothing else of it is called. */
 #ifndef BENCH_PEERS_H
 #define BENCH_PEERS_H
@@ -17,7 +17,7 @@ typedef struct peer {
     bool installed;
     const char *name, *package;
     /* Takes over the operands. */
-    void (*prepare)(const pair pairs[PAIRS]);
+    void (*prepare)(zurkeb_format f, const pair pairs[PAIRS]);
     /* One pass of an operation, rounded to nearest, ties to even. */
     work (*work_of)(enum operation operation);
     /* Is our direction one of the peer's? */
@@ -26,6 +26,6 @@ typedef struct peer {
     bool (*agrees)(enum operation operation, uint32_t direction, int index, zurkeb_number ours);
 } peer;
 
-extern const peer mpfr_peer, intel_peer;
+extern const peer mpfr_peer, intel_peer, intel64_peer;
 
 #endif

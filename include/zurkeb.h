@@ -60,9 +60,9 @@ typedef struct zurkeb_format {
 /* The value (-1)^negative * significand * base^exponent. Zero has either sign, and exponent emin. In an answer `negative` is 0 or 1; a
  * number that is handed over with any other value there is in no format, and is refused by 3. */
 typedef struct zurkeb_number {
-    uint32_t negative; /* 0 plus, 1 minus */
-    uint32_t significand;
+    uint64_t significand;
     int32_t exponent;
+    uint32_t negative; /* 0 plus, 1 minus */
 } zurkeb_number;
 
 typedef struct zurkeb_number_answer {
@@ -90,6 +90,11 @@ typedef struct zurkeb_triple_answer {
     uint32_t refusal;
     zurkeb_number x, z, y;
 } zurkeb_triple_answer;
+
+typedef struct zurkeb_pattern64_answer {
+    uint32_t refusal;
+    uint64_t pattern;
+} zurkeb_pattern64_answer;
 
 typedef struct zurkeb_check_answer {
     uint32_t refusal;
@@ -144,12 +149,13 @@ typedef struct zurkeb_stretch_answer {
 #define ZURKEB_SIZE(type, size) _Static_assert(sizeof(type) == (size), #type)
 #endif
 ZURKEB_SIZE(zurkeb_format, 16);
-ZURKEB_SIZE(zurkeb_number, 12);
-ZURKEB_SIZE(zurkeb_number_answer, 16);
-ZURKEB_SIZE(zurkeb_rounded_answer, 20);
+ZURKEB_SIZE(zurkeb_number, 16);
+ZURKEB_SIZE(zurkeb_number_answer, 24);
+ZURKEB_SIZE(zurkeb_rounded_answer, 24);
 ZURKEB_SIZE(zurkeb_order_answer, 8);
 ZURKEB_SIZE(zurkeb_published_answer, 20);
-ZURKEB_SIZE(zurkeb_triple_answer, 40);
+ZURKEB_SIZE(zurkeb_triple_answer, 56);
+ZURKEB_SIZE(zurkeb_pattern64_answer, 16);
 ZURKEB_SIZE(zurkeb_check_answer, 8);
 ZURKEB_SIZE(zurkeb_slices_answer, 24);
 ZURKEB_SIZE(zurkeb_position_answer, 16);
@@ -161,7 +167,7 @@ ZURKEB_SIZE(zurkeb_stretch_answer, 24);
 
 /* Is the format admitted? 0, or 1. */
 uint32_t zurkeb_check_format(zurkeb_format format);
-/* The published format with this number: 1 binary16, 2 binary32, 3 decimal32. Refuses 10. */
+/* The published format with this number: 1 binary16, 2 binary32, 3 decimal32, 4 binary64, 5 decimal64. Refuses 10. */
 zurkeb_published_answer zurkeb_published(uint32_t number);
 /* Is x in the format? 0, or 1 or 3. */
 uint32_t zurkeb_check_number(zurkeb_format format, zurkeb_number x);
@@ -209,6 +215,10 @@ zurkeb_number_answer zurkeb_read_pattern(uint32_t pattern);
 /* The number of a decimal32 pattern in the densely packed form of IEEE 754, clause 3.5, in published format 3. All 1,024 ten-bit groups
  * are read. Refuses 9. */
 zurkeb_number_answer zurkeb_read_decimal32(uint32_t pattern);
+/* The number of a binary64 pattern, in published format 4. Refuses 9. */
+zurkeb_number_answer zurkeb_read_binary64(uint64_t pattern);
+/* The pattern of a number of published format 4. Refuses 3. */
+zurkeb_pattern64_answer zurkeb_write_binary64(zurkeb_number x);
 /* The next six calls answer a 64-bit number: the refusal (0 for none) in the upper half, the pattern in the lower, 0 at a refusal. */
 /* The pattern of a number of published format 2. Refuses 3. */
 uint64_t zurkeb_write_pattern(zurkeb_number x);

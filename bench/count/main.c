@@ -9,7 +9,7 @@
 typedef zurkeb_rounded_answer (*our_call)(zurkeb_format, uint32_t, zurkeb_number, zurkeb_number);
 
 /* base^k */
-static uint32_t power(uint32_t base, uint32_t k) {
+static uint64_t power(uint32_t base, uint32_t k) {
     return k == 0 ? 1 : base * power(base, k - 1);
 }
 
@@ -24,11 +24,11 @@ int main(int count, char **arguments) {
     uint32_t base = (uint32_t)atoi(arguments[2]), digits = (uint32_t)atoi(arguments[3]);
     long times = atol(arguments[4]);
     zurkeb_format format = {base, digits, -101, 90};
-    uint32_t least = power(base, digits - 1);
-    zurkeb_number a = {0, least + least / 2, 0}, b = {0, least + least / 3, -2};
-    volatile uint32_t used = 0;
+    uint64_t least = power(base, digits - 1);
+    zurkeb_number a = {least + least / 2, 0, 0}, b = {least + least / 3, -2, 0};
+    volatile uint64_t used = 0;
     for (long i = 0; i < times; i++) {
-        a.significand ^= (uint32_t)(i & 1);
+        a.significand ^= (uint64_t)(i & 1);
         used ^= calls[operation](format, ZURKEB_NEAREST_EVEN, a, b).number.significand;
     }
     return 0;

@@ -54,10 +54,10 @@ static bool is_finite(uint32_t pattern) {
 /* The number of format 3 with this value: as many digits as there is room for, zero at the lowest exponent. */
 static zurkeb_number of_parts(uint32_t sign, uint32_t coefficient, int32_t exponent) {
     if (coefficient == 0)
-        return (zurkeb_number){sign, 0, EMIN};
+        return (zurkeb_number){0, EMIN, sign};
     for (; coefficient < FULL && exponent > EMIN; exponent--)
         coefficient *= 10;
-    return (zurkeb_number){sign, coefficient, exponent};
+    return (zurkeb_number){coefficient, exponent, sign};
 }
 
 static zurkeb_number read_plainly(uint32_t pattern) {
@@ -115,7 +115,7 @@ static void pattern_goes_round(uint32_t pattern) {
 static void number_is_written(void) {
     static const uint32_t significands[] = {0, 1, FULL - 1, FULL, BOUND - 1, BOUND, UINT32_MAX};
     static const int32_t exponents[] = {EMIN - 1, EMIN, EMIN + 1, EMAX - 1, EMAX, EMAX + 1, INT32_MIN, INT32_MAX};
-    zurkeb_number x = {random32() % 3, random32() % (BOUND + BOUND / 8), (int32_t)(random32() % 200) - 105};
+    zurkeb_number x = {random32() % (BOUND + BOUND / 8), (int32_t)(random32() % 200) - 105, random32() % 3};
     if (random32() % 4 == 0)
         x.significand = significands[random32() % 7];
     if (random32() % 4 == 0)

@@ -62,7 +62,7 @@ static zurkeb_rounded_answer rounded(zurkeb_format f, uint32_t direction, bool n
     if (e > f.emax)
         return (zurkeb_rounded_answer){.refusal = ZURKEB_TOO_LARGE};
     uint32_t side = takes_next(direction, negative, s) != negative ? ZURKEB_HIGH : ZURKEB_LOW;
-    return (zurkeb_rounded_answer){0, s.rest == 0 ? ZURKEB_EXACT : side, {negative, (uint32_t)m, e}};
+    return (zurkeb_rounded_answer){0, s.rest == 0 ? ZURKEB_EXACT : side, {(uint64_t)m, e, negative}};
 }
 
 static void same_answer(const char *what, zurkeb_rounded_answer ours, zurkeb_rounded_answer wanted) {

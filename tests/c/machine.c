@@ -105,11 +105,13 @@ static void neighbours(uint32_t a) {
 /* One call for each refusal number, and results of each kind. */
 static void interface(void) {
     zurkeb_format d = {10, 3, -5, 5}, bad = {257, 3, -5, 5}, two = {2, 3, -9, 9};
-    zurkeb_number one = {0, 100, -2}, greatest = {0, 999, 5}, outside = {0, 1000, 0}, zero = {0, 0, -5};
+    zurkeb_number one = {100, -2, 0}, greatest = {999, 5, 0}, outside = {1000, 0, 0}, zero = {0, -5, 0};
     same("check_format", zurkeb_check_format(d), 0);
     same("check_format", zurkeb_check_format(bad), ZURKEB_FORMAT_NOT_ADMITTED);
     same("published", zurkeb_published(3).format.base, 10);
-    same("published", zurkeb_published(4).refusal, ZURKEB_NO_SUCH_FORMAT);
+    same("published", zurkeb_published(4).format.digits, 53);
+    same("published", zurkeb_published(5).format.digits, 16);
+    same("published", zurkeb_published(6).refusal, ZURKEB_NO_SUCH_FORMAT);
     same("check_number", zurkeb_check_number(d, one), 0);
     same("check_number", zurkeb_check_number(d, outside), ZURKEB_NUMBER_NOT_IN_FORMAT);
     same("compare", (uint32_t)zurkeb_compare(d, zero, one).order, (uint32_t)-1);
@@ -126,7 +128,7 @@ static void interface(void) {
     same("difference", zurkeb_difference(d, 0, one, one).number.significand, 0);
     same("product", zurkeb_product(d, 0, greatest, greatest).refusal, ZURKEB_TOO_LARGE);
     same("quotient", zurkeb_quotient(d, 0, one, zero).refusal, ZURKEB_DIVISOR_ZERO);
-    zurkeb_number minus_zero = {1, 0, -5};
+    zurkeb_number minus_zero = {0, -5, 1};
     same("minus zero is a number", zurkeb_check_number(d, minus_zero), 0);
     same("the zeros are equal", zurkeb_compare(d, minus_zero, zero).refusal == 0 && zurkeb_compare(d, minus_zero, zero).order == 0, 1);
     same("negate", zurkeb_negate(d, zero).number.negative, 1);
@@ -143,13 +145,13 @@ static void interface(void) {
     }
     same("fraction", zurkeb_fraction(d, ZURKEB_TOWARD_ZERO, -1, UINT32_MAX).number.negative, 1);
     zurkeb_format routes = {10, 3, -3, 3}, short_of = {10, 3, -2, 3};
-    zurkeb_number unit = {0, 100, -2};
+    zurkeb_number unit = {100, -2, 0};
     same("ufp_toward_zero", zurkeb_ufp_toward_zero(routes, unit).number.significand, 100);
     same("ufp_toward_zero", zurkeb_ufp_toward_zero(short_of, unit).refusal, ZURKEB_PREMISE_FAILS);
     same("ulp_upward", zurkeb_ulp_upward(d, one).number.exponent == -4, 1);
     same("ulp_toward_zero", zurkeb_ulp_toward_zero(d, one).number.exponent == -4, 1);
     same("ulp_toward_zero_unbranched", zurkeb_ulp_toward_zero_unbranched(d, one).number.exponent == -4, 1);
-    zurkeb_number four = {0, 4, 0}, half = {0, 4, -3}, sixteenth = {0, 4, -6};
+    zurkeb_number four = {4, 0, 0}, half = {4, -3, 0}, sixteenth = {4, -6, 0};
     same("fast_two_sum", zurkeb_fast_two_sum(d, 0, 0, 0, one, one).refusal, ZURKEB_NOT_BINARY);
     same("fast_two_sum", zurkeb_fast_two_sum(two, 3, 3, 3, half, four).refusal, ZURKEB_SMALLER_FIRST);
     zurkeb_triple_answer t = zurkeb_fast_two_sum(two, 3, 3, 3, four, sixteenth);

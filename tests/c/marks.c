@@ -61,12 +61,12 @@ static wide value(zurkeb_format f, zurkeb_number x) {
 
 static zurkeb_number member(zurkeb_format f) {
     wide least = raised(1, f.base, (int32_t)f.digits - 1);
-    zurkeb_number x = {random32() & 1, (uint32_t)(least + random32() % (least * (f.base - 1))),
-                       f.emin + (int32_t)(random32() % (uint32_t)(f.emax - f.emin + 1))};
+    zurkeb_number x = {least + random32() % (least * (f.base - 1)), f.emin + (int32_t)(random32() % (uint32_t)(f.emax - f.emin + 1)),
+                       random32() & 1};
     if (random32() % 4 == 0) /* few digits, so that results are often exact */
         x.significand = (uint32_t)(least * (1 + random32() % (f.base - 1)));
     if (random32() % 16 == 0)
-        x = (zurkeb_number){0, random32() % least, f.emin};
+        x = (zurkeb_number){random32() % least, f.emin, 0};
     return x;
 }
 

@@ -22,7 +22,7 @@ static uint32_t random_bad_sign(void) { return 2 + random32() % (UINT32_MAX - 1)
 /* ---- the calls, each with its operands in an array */
 /* The refusal, and the other fields of the answer. */
 typedef struct outcome {
-    uint32_t refusal, fields[9];
+    uint32_t refusal, fields[12];
 } outcome;
 
 static void put(uint32_t *fields, zurkeb_number x) {
@@ -45,8 +45,8 @@ static outcome fast_two_sum(zurkeb_format f, uint32_t direction, const zurkeb_nu
     zurkeb_triple_answer r = zurkeb_fast_two_sum(f, direction, direction, direction, x[0], x[1]);
     outcome o = {.refusal = r.refusal};
     put(o.fields, r.x);
-    put(o.fields + 3, r.z);
-    put(o.fields + 6, r.y);
+    put(o.fields + 4, r.z);
+    put(o.fields + 8, r.y);
     return o;
 }
 
@@ -101,13 +101,13 @@ static outcome answer(const call *c, zurkeb_format f, uint32_t direction, const 
         zurkeb_rounded_answer r = c->of_two(f, direction, x[0], x[1]);
         o.refusal = r.refusal;
         put(o.fields, r.number);
-        o.fields[3] = r.mark;
+        o.fields[4] = r.mark;
     }
     return o;
 }
 
 static void refused(const call *c, zurkeb_format f, uint32_t direction, const zurkeb_number *x, uint32_t wanted) {
-    static const uint32_t zeros[9];
+    static const uint32_t zeros[12];
     outcome o = answer(c, f, direction, x);
     same(c->name, o.refusal, wanted);
     same(c->name, (uint64_t)memcmp(o.fields, zeros, sizeof zeros), 0);
@@ -125,12 +125,12 @@ static uint32_t power(uint32_t base, uint32_t k) {
 static zurkeb_number member(zurkeb_format f) {
     uint32_t top = power(f.base, f.digits), full = top / f.base, kind = random32() % 8, sign = random32() & 1;
     if (kind == 0)
-        return (zurkeb_number){0, 0, f.emin};
+        return (zurkeb_number){0, f.emin, 0};
     if (kind == 1)
-        return (zurkeb_number){sign, top - 1, f.emax};
+        return (zurkeb_number){top - 1, f.emax, sign};
     if (kind == 2)
-        return (zurkeb_number){sign, 1 + random32() % (top - 1), f.emin};
-    return (zurkeb_number){sign, full + random32() % (top - full), f.emin + (int32_t)(random32() % (uint32_t)(f.emax - f.emin + 1))};
+        return (zurkeb_number){1 + random32() % (top - 1), f.emin, sign};
+    return (zurkeb_number){full + random32() % (top - full), f.emin + (int32_t)(random32() % (uint32_t)(f.emax - f.emin + 1)), sign};
 }
 
 /* ---- comparisons */

@@ -12,7 +12,7 @@ significand, exponent. Below zero is two's complement. Columns that a call does 
   numbers of binary32."""
 import os
 
-FILES = ["binary32_nearest.txt", "binary32_directions.txt", "decimal.txt", "minus_zero.txt", "decimal32.txt", "fractions.txt", "scope.txt"]
+FILES = ["binary32_nearest.txt", "binary32_directions.txt", "decimal.txt", "minus_zero.txt", "decimal32.txt", "wide.txt", "fractions.txt", "scope.txt"]
 FLAGGED = ["inexact/binary32_directions.txt", "inexact/decimal.txt"]
 # the operations in the order of their numbers, which is that of `calls` in crates/vectors/specs/Calls.antt
 NUMBERS = ["sum", "diff", "prod", "quot", "frac", "cmp", "abs", "neg", "pred", "succ", "ufp"]

@@ -68,7 +68,7 @@ keyed k low high = by (decLe (2 ^ 31) k)
 -- ---- values
 module _ (n k : ℕ) {x y : Number} (r : patternRead n ≡ gives x) (q : patternRead k ≡ gives y) where
   order : ltZ (value binary32 x) (value binary32 y) ≡ ltb (keyOf n) (keyOf k)
-  unfolding patternValue
+  unfolding patternValue magnitudeRead
   order = ap₂ ltZ (read-value n r) (read-value k q) ∙ sym (key-order n k refl refl)
 
   under : value binary32 x <ℤ value binary32 y → keyOf n < keyOf k

@@ -26,7 +26,7 @@ normal-magnitude k {E} {F} e f =
 
 -- the pattern of a magnitude, for the sign plus
 place-pattern : (k : ℕ) {M : ℕ} → k < 2 ^ 31 → magnitudeRead k ≡ M → patternOf (number binary32 false M) ≡ k
-unfolding numberRead
+unfolding numberRead magnitudeRead
 place-pattern k l e =
     ap₂ (λ (s : Bool) (m : ℕ). patternOf (number binary32 s m)) (sym (lt-leb (2 ^ 31) k l)) (sym e) ∙ pattern-back k (omega arith)
 

@@ -1,24 +1,28 @@
 -- The values of patterns as whole multiples of 2 ^ -149: that of a finite pattern is the value of the number read, keys are in the
 -- order of the values, and what a list of patterns says of the list of its values.
-use Rattle.theory.proofs.Prelude.{ℕ, _≤_, _<_, _+_, _^_, _-_, _%_, true, false, Bool, cond, not, List, map, _∙_, ap, _≡_, sym, refl, ap₂, decLe, arith, eqb, ltb, pos, length, getD, length-map, ltZ, ne-eqb, eq-eqb, le-ltb, lt-ltb, not-true, not-false}
+use Rattle.theory.proofs.Prelude.{ℕ, _≤_, _<_, _+_, _^_, _-_, _%_, true, false, Bool, cond, not, List, map, _∙_, ap, _≡_, sym, refl, ap₂, decLe, arith, eqb, ltb, pos, natAbs, length, getD, length-map, ltZ, ne-eqb, eq-eqb, le-ltb, lt-ltb, not-true, not-false}
 use lib.ListN.{List·getD-map}
 use Rattle.theory.specs.Signed.{signed}
 use Rattle.theory.specs.Lists.{none}
 use Rattle.theory.specs.Tests.{_and_}
-use Rattle.theory.proofs.Integers.{above, below, neg-above, neg-below}
+use Rattle.theory.proofs.Integers.{above, below, neg-above, neg-below, size-signed}
 use Rattle.theory.proofs.Lists.{none-at}
 use Rattle.theory.proofs.Tests.{and-made}
 use Rattle.format.specs.Published.{binary32}
 use Rattle.format.proofs.Signed.{lt-true, lt-false}
 use Rattle.number.specs.Numbers.{value}
 use Rattle.binary32.specs.Patterns.{signOf, finite, notFinite, magnitudeRead, patternValue, patternValues, numberRead, keyOf}
-use Rattle.binary32.proofs.PatternOrder.{signedPattern, signed-order, magnitudes-ordered}
+use Rattle.binary32.proofs.PatternOrder.{signedPattern, values-order}
 use Rattle.binary32.proofs.RoundTrips.{read-made, read-value}
 
 -- the number that is read has the value
 pub read-is-value : (n : ℕ) → finite n ≡ true → value binary32 (numberRead n) ≡ patternValue n
-unfolding patternValue
+unfolding patternValue magnitudeRead
 read-is-value n h = read-value n (read-made n h)
+
+pub value-size : (n : ℕ) → natAbs (patternValue n) ≡ magnitudeRead n
+unfolding patternValue magnitudeRead
+value-size n = size-signed (signOf n) (magnitudeRead n)
 
 -- ---- finite or not
 pub finite-made : (n : ℕ) → notFinite n ≡ false → finite n ≡ true
@@ -54,11 +58,10 @@ key-parts n = by (signOf n)
 
 -- the order of the keys is that of the values
 pub key-order : (a b : ℕ) {x y : ℕ} → x ≡ keyOf a → y ≡ keyOf b → ltb x y ≡ ltZ (patternValue a) (patternValue b)
-unfolding patternValue
 key-order a b {x} {y} e f =
     ap₂ ltb e f
     ∙ by (ltZ (signedPattern a) (signedPattern b)) refl
-    ∙ sym (signed-order (magnitudes-ordered a b) (signOf a) (signOf b))
+    ∙ sym (values-order a b)
   where
     by : (t : Bool) → ltZ (signedPattern a) (signedPattern b) ≡ t → ltb (keyOf a) (keyOf b) ≡ t
     by true g = lt-ltb (keyOf a) (keyOf b) (omega (arith, lt-true (signedPattern a) (signedPattern b) g, key-parts a, key-parts b))

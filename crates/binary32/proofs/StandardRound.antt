@@ -1,15 +1,15 @@
 -- The rounding of lib.Ieee, the kit's own account of IEEE 754, is the theory's to nearest with ties to even in format 2: an infinity
 -- where the rounded magnitude exceeds the greatest number, and otherwise the float that has its value.
-use Rattle.theory.proofs.Prelude.{ℕ, _≤_, _<_, _+_, _^_, _*_, _-_, suc, _%_, _/_, true, false, Bool, cond, not, _≢_, _∙_, ap, _≡_, sym, refl, subst, ℕ-discrete, mul-pos, le-antisymm, le-of-suc-le-suc, lt-of-not-le, mul-div-cancel, arith, eqb, leb, T, ne-eqb, eq-eqb, leb-true, leb-false, le-ltb, ltb-true}
+use Rattle.theory.proofs.Prelude.{ℕ, _≤_, _<_, _+_, _^_, _*_, _-_, suc, _%_, _/_, true, false, Bool, cond, not, _≢_, _∙_, ap, _≡_, sym, refl, subst, ℕ-discrete, mul-pos, le-antisymm, le-of-suc-le-suc, lt-of-not-le, arith, eqb, leb, T, ne-eqb, eq-eqb, leb-true, leb-false, le-ltb, ltb-true}
 use Prim.Native.Nat.{compare, Ordering, Ordering·lt, Ordering·eq, Ordering·gt}
 use native.Mathlib.Nat.{lt-of-le-of-lt, not-le-of-lt}
 use lib.Dec.{isLe, isEq, leb→le, nleb→lt, eqb→eq}
 use mir.Facts.{eqb-no}
 use lib.Ieee as ieee
-use lib.Ieee.{Float, nan, inf, fin, up, down, size, nearest, odd, units}
+use lib.Ieee.{Float, inf, size, nearest, odd, units}
 use lib.Ieee.Digits.{size-lt, size-le}
 use lib.Ieee.Exact.{HasValue, units-val}
-use lib.Ieee.Fits.{round-is, down-pos}
+use lib.Ieee.Fits.{round-is}
 use lib.Ieee.Nearest.{closest, closest-same, div-same}
 use Rattle.theory.specs.Place.{place, step}
 use Rattle.theory.specs.Wide.{Wide}
@@ -27,13 +27,13 @@ use Rattle.number.specs.declared.Number.{Number}
 use Rattle.format.specs.Given.{Given, gives, refused}
 use Rattle.number.specs.Numbers.{number, greatest, delivered}
 use Rattle.number.proofs.Values.{canonical-within}
+use Rattle.binary_patterns.proofs.Standard as general
 use Rattle.binary32.proofs.Fields.{binary32-limits, binary-24}
 
 -- the answer that a float of lib.Ieee stands for; an infinity is a result too large
 unfoldable pub answered : Float → Given Number
-answered nan = refused 9
-answered (inf s) = refused 5
-answered (fin s m e) = gives (number binary32 s (m * up e * 2 ^ 149 / down e))
+unfolding general.answered
+answered x = general.answered ieee.binary32 8 23 x
 
 -- ± N / D units of 2 ^ -149, rounded to nearest with ties to even, and the answer that it makes
 abbrev pub nearestRound : (negative : Bool) (N D : ℕ) → ℕ
@@ -45,9 +45,7 @@ nearestOf negative N D = delivered binary32 negative (nearestRound negative N D)
 -- a finite float's answer, by its value
 pub answered-value : (x : Float) (s : Bool) (n : ℕ) → HasValue x s n (2 ^ 149) → answered x ≡ gives (number binary32 s n)
 unfolding answered
-answered-value nan s n h = absurd h
-answered-value (inf t) s n h = absurd h
-answered-value (fin t m e) s n h = rw (h .0, h .1, mul-div-cancel n (down-pos e))
+answered-value x s n h = general.answered-value ieee.binary32 8 23 x s n h
 
 -- ---- the place by the number of binary digits
 size-place : (n : ℕ) → size n - 24 ≡ place 2 24 n

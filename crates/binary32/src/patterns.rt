@@ -39,8 +39,9 @@ fn significand_of(field: u32, fraction: u32) -> Significand
     requires { ⌜ fraction < 2 ^ 23 ⌝ }
     ensures { λ r. ⌜ r ≡ cond (eqb field 0) fraction (2 ^ 23 + fraction) ⌝ }
 {
-    let leading = 8388608 + fraction;
-    if field == 0 { fraction } else { leading }
+    let digits = fraction as Significand;
+    let leading = 8388608 + digits;
+    if field == 0 { digits } else { leading }
 }
 
 // The number that a finite pattern stands for.
@@ -70,7 +71,7 @@ pub fn pattern_of(x: Number) -> u32
     ensures { λ r. ⌜ r ≡ patternOf x ⌝ }
 {
     let place = distance(-149, x.exponent);
-    let significand = x.significand;
+    let significand = x.significand as u32;
     sign_weight(x.negative) + place * 8388608 + significand
 }
 

@@ -5,6 +5,7 @@ use crate::order::pattern_of_key;
 use crate::patterns::place_of;
 use crate::prepared::prepared_binary32;
 use format::Refusal;
+use format::Significand;
 use number::PatternAnswer;
 use units::powers_of_base::leading_power;
 ghost use mathlib.Core.Path.{_≡_};
@@ -32,7 +33,9 @@ fn ufp(pattern: u32) -> PatternAnswer
     let size = pattern % 2147483648;
     if size < 8388608 {
         let prepared = prepared_binary32();
-        return PatternAnswer::Written(leading_power(prepared.scale, size));
+        let power = leading_power(prepared.scale, size as Significand);
+        let written = power as u32;
+        return PatternAnswer::Written(written);
     }
     PatternAnswer::Written(size / 8388608 * 8388608)
 }
@@ -48,7 +51,9 @@ fn ulp(pattern: u32) -> PatternAnswer
         return PatternAnswer::Written(0);
     }
     if field < 24 {
-        return PatternAnswer::Written(format::powers::power(2, place_of(field)));
+        let power = format::powers::power(2, place_of(field));
+        let written = power as u32;
+        return PatternAnswer::Written(written);
     }
     PatternAnswer::Written((field - 23) * 8388608)
 }

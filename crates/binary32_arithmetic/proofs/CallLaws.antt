@@ -1,24 +1,34 @@
 -- A call on patterns is the call of format 2 on the numbers that the patterns stand for: its pattern, read, is the number that the
 -- call on numbers gives, and its refusal is that call's, in every direction. An infinity or NaN is refused by 9, after 2.
-use Rattle.theory.proofs.Prelude.{ℕ, true, false, Bool, [], _∷_, _∙_, ap, _≡_, sym, refl, ap₂}
+use Rattle.theory.proofs.Prelude.{ℕ, true, false, Bool, cond, [], _∷_, _∙_, ap, _≡_, sym, refl, ap₂, arith}
 use Rattle.theory.specs.Lists.{all}
 use Rattle.theory.specs.Tests.{_and_, unless}
 use Rattle.theory.specs.declared.Direction.{Direction}
-use Rattle.theory.proofs.Tests.{and-made, unless-passed, unless-failed}
+use Rattle.theory.proofs.Tests.{and-left, and-right, and-made, unless-passed, unless-failed}
+use Rattle.format.specs.declared.Format.{Format}
+use Rattle.format.specs.declared.Prepared.{Prepared}
+use Rattle.format.specs.declared.Refusal.{Refusal}
+use Rattle.format.specs.declared.Refusal.the-variants.{NoSuchDirection, NotFinite}
+use Rattle.format.specs.Formats.{preparedOf}
+use Rattle.format.specs.Refusals.{refusalNumber}
 use Rattle.format.specs.Given.{Given, gives, refused, refusedAt, _then_}
 use Rattle.format.specs.Directions.{isDirection, direction}
 use Rattle.format.specs.Published.{binary32}
 use Rattle.number.specs.declared.Number.{Number}
 use Rattle.number.specs.Numbers.{member}
 use Rattle.number.specs.Checks as checks
+use Rattle.number.specs.Checks.{Operands}
+use Rattle.number.proofs.Membership.{prepared-format, prepared-member, usable}
 use Rattle.arithmetic.specs.Operations.{summed, subtracted, multiplied, divided}
 use Rattle.arithmetic.proofs.Results.{sum-member, difference-member, product-member, quotient-member}
-use Rattle.binary32.specs.Patterns.{finite, patternRead, answerWritten}
+use Rattle.binary32.specs.Patterns.{finite, numberRead, patternRead, answerWritten}
 use Rattle.binary32.proofs.Fields.{binary32-admitted, binary32-limits}
 use Rattle.binary32.proofs.RoundTrips.{Reads, reads, read-member, written-read}
 use Rattle.binary32_arithmetic.specs.declared.Operation.{Operation}
 use Rattle.binary32_arithmetic.specs.declared.Operation.the-variants.{Sum, Difference, Product, Quotient}
-use Rattle.binary32_arithmetic.specs.Calls.{roundedBy, onPatterns, patternCall}
+use Rattle.binary32_arithmetic.specs.declared.CallRead.the-variants.{Ready, Refused}
+use Rattle.binary32_arithmetic.specs.Calls.{roundedBy, onPatterns, patternCall, callRead}
+use Rattle.binary32_arithmetic.proofs.ExactSums.{pattern-member}
 
 -- the call on numbers of format 2
 abbrev pub numberCall : Operation → (d : ℕ) (x y : Number) → Given Number
@@ -46,6 +56,53 @@ result-member Sum d a b e = sum-member binary32-limits d a b e
 result-member Difference d a b e = difference-member binary32-limits d a b e
 result-member Product d a b e = product-member binary32-limits d a b e
 result-member Quotient d a b e = quotient-member binary32-limits d a b e
+
+-- ---- what a call is given: two numbers of format 2, on which the call is the operation
+pub record Read (d a b : ℕ) (t : Direction) (x y : Number) : Type 0 where
+  pub first : member binary32 x ≡ true
+  pub second : member binary32 y ≡ true
+  pub is : (operation : Operation) → answerWritten (roundedBy operation binary32 t x y) ≡ patternCall operation d a b
+
+other : {A : Type 0} {why : Refusal} {t : Direction} {x y : Number} → Refused why ≡ Ready t x y → A
+other e = let z : _≡_ {A = ℕ} 0 1 = cc in absurd (omega arith)
+
+module _ (d a b : ℕ) where
+  pub call-ready : {t : Direction} {x y : Number} → callRead d a b ≡ Ready t x y → Read d a b t x y
+  unfolding callRead patternCall onPatterns
+  call-ready {t} {x} {y} e = by (isDirection d) refl (finite a and finite b) refl e
+    where
+      by : (p : Bool) → isDirection d ≡ p → (q : Bool) → finite a and finite b ≡ q
+          → cond p (cond q (Ready (direction d) (numberRead a) (numberRead b)) (Refused NotFinite)) (Refused NoSuchDirection) ≡ Ready t x y → Read d a b t x y
+      by true f true g k =
+          let et : t ≡ direction d = cc in
+          let ex : x ≡ numberRead a = cc in
+          let ey : y ≡ numberRead b = cc in
+          record {
+            first = pattern-member a (and-left _ _ g) ex;
+            second = pattern-member b (and-right _ _ g) ey;
+            is = λ o. rw (et, ex, ey) (sym (unless-passed _ _ f ∙ unless-passed _ _ g));
+          }
+      by true f false g k = other k
+      by false f q g k = other k
+
+  pub call-refused : {why : Refusal} → callRead d a b ≡ Refused why → (operation : Operation) → refused (refusalNumber why) ≡ patternCall operation d a b
+  unfolding callRead patternCall onPatterns
+  call-refused {why} e o = by (isDirection d) refl (finite a and finite b) refl e
+    where
+      by : (p : Bool) → isDirection d ≡ p → (q : Bool) → finite a and finite b ≡ q
+          → cond p (cond q (Ready (direction d) (numberRead a) (numberRead b)) (Refused NotFinite)) (Refused NoSuchDirection) ≡ Refused why
+          → refused (refusalNumber why) ≡ patternCall o d a b
+      by true f true g k = other (sym k)
+      by true f false g k = let e : why ≡ NotFinite = cc in rw e (sym (unless-passed _ _ f ∙ unless-failed _ _ g))
+      by false f q g k = let e : why ≡ NoSuchDirection = cc in rw e (sym (unless-failed _ _ f))
+
+-- what the operations ask of the format's constants, and what they give with them
+module _ {q : Prepared} (e : q ≡ preparedOf binary32) where
+  pub constant-operands : {x y : Number} → member binary32 x ≡ true → member binary32 y ≡ true → Operands q x y
+  constant-operands h k = record { usable = usable binary32-admitted e; first = prepared-member e _ h; second = prepared-member e _ k }
+
+  pub constant-format : (operation : Operation) (d : Direction) (x y : Number) → roundedBy operation (q .format) d x y ≡ roundedBy operation binary32 d x y
+  constant-format o d x y = ap (λ (f : Format). roundedBy o f d x y) (prepared-format e)
 
 -- a result, written and read
 back : (operation : Operation) (t : Direction) (x y : Number) {r : Given Number} → roundedBy operation binary32 t x y ≡ r → readBack (answerWritten r) ≡ r

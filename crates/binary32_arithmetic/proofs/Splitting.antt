@@ -2,7 +2,7 @@
 use Rattle.theory.proofs.Prelude.{ℕ, _≤_, _+_, _^_, _%_, true, false, Bool, cond, not, inl, _∙_, ap, _≡_, refl, subst, arith, ℤ, pos, _+ℤ_, natAbs, _-ℤ_, negℤ, _*ℤ_, +ℤ-comm, leZ}
 use Rattle.theory.specs.declared.Direction.the-variants.{NearestEven}
 use Rattle.theory.specs.Signed.{roundZ}
-use Rattle.theory.proofs.Integers.{above, below, sum-parts, diff-parts, neg-above, neg-below, size-signed, le-parts, parts-eq, parts-scale-le, scale-above, scale-below}
+use Rattle.theory.proofs.Integers.{above, below, sum-parts, diff-parts, neg-above, neg-below, le-parts, parts-eq, parts-scale-le, scale-above, scale-below}
 use Rattle.theory.proofs.Round.{to-even}
 use Rattle.theory.proofs.Signed.{roundZ-mono}
 use Rattle.theory.proofs.FastTwoSum.{WideTriple, nearest-exact, rounded-triple}
@@ -10,9 +10,10 @@ use Rattle.theory.proofs.Tests.{denied, granted}
 use Rattle.format.proofs.Signed.{Upto, le-true, le-false}
 use Rattle.rounding.specs.declared.Wide.{Wide}
 use Rattle.wide.specs.Operand.{valueOf}
-use Rattle.binary32.specs.Patterns.{signOf, magnitudeRead, patternValue}
+use Rattle.binary32.specs.Patterns.{patternValue}
 use Rattle.binary32.proofs.Fields.{binary-24}
 use Rattle.binary32.proofs.PatternOrder.{magnitude-most}
+use Rattle.binary32.proofs.PatternValues.{value-size}
 use Rattle.binary32_arithmetic.specs.declared.Parts.{Parts}
 use Rattle.binary32_arithmetic.specs.Exact.{Placed, SumOf, turned, Splits, splitUpto}
 use Rattle.binary32_arithmetic.proofs.ExactSums.{value-wide, placed-more, turned-is, turned-placed}
@@ -71,9 +72,7 @@ module _ (a b : Wide) (ha : Placed 253 a) (hb : Placed 253 b) {x : Wide} (ex : S
 
 -- ---- from patterns
 pub in-order : (a b : ℕ) {v w : ℤ} → v ≡ patternValue a → w ≡ patternValue b → a % 2 ^ 31 ≤ b % 2 ^ 31 → natAbs v ≤ natAbs w
-unfolding patternValue
-in-order a b e f h =
-    rw (e, f, size-signed (signOf a) (magnitudeRead a), size-signed (signOf b) (magnitudeRead b)) (magnitude-most a b h)
+in-order a b e f h = rw (e, f, value-size a, value-size b) (magnitude-most a b h)
 
 pub split-told : {u v u′ v′ : ℤ} {r : Parts} → u ≡ u′ → v ≡ v′ → Splits (u +ℤ v) r → Splits (u′ +ℤ v′) r
 split-told e f s = rw (← e, ← f) s

@@ -5,14 +5,22 @@ pub mod operations;
 pub mod slices;
 
 use format::Refusal;
+use number::Number;
 use rounding::Wide;
+use theory::Direction;
 
-// The four operations.
+// The four operations, for what is said of all of them.
 pub enum Operation {
     Sum,
     Difference,
     Product,
     Quotient,
+}
+
+// What a call on two patterns is given: its direction and the numbers of the patterns, or why it is refused.
+pub enum CallRead {
+    Ready(Direction, Number, Number),
+    Refused(Refusal),
 }
 
 // What a sum of slices answers: how many entries are not exact; refusals 5 and 9 come with the index of the first refused entry.

@@ -1,10 +1,9 @@
 // Two slices of patterns summed entry by entry into a third. The first pass looks for a refused entry, the second writes.
 use crate::Examined;
-use crate::Operation;
 use crate::SliceAnswer;
 use crate::WrittenEntry;
-use crate::operations::operate_on_patterns;
 use arithmetic::RoundedAnswer;
+use arithmetic::sum::add;
 use arithmetic::sum::marked_sum;
 use binary32::finite::is_finite;
 use binary32::patterns::pattern_of;
@@ -14,7 +13,7 @@ use format::Refusal;
 use format::Verdict;
 use format::directions::direction_of;
 use format::directions::is_direction;
-use number::PatternAnswer;
+use number::NumberAnswer;
 use theory::Direction;
 use theory::Mark;
 ghost use mathlib.Core.Path.{_≡_};
@@ -58,9 +57,20 @@ fn examine(direction: Direction, a: u32, b: u32) -> Verdict
     if are_halves(a, b) {
         return Verdict::Passed;
     }
-    match operate_on_patterns(Operation::Sum, direction, a, b) {
-        PatternAnswer::Written(_) => Verdict::Passed,
-        PatternAnswer::Refused(why) => Verdict::Refused(why),
+    if !is_finite(a) {
+        return Verdict::Refused(Refusal::NotFinite);
+    }
+    if !is_finite(b) {
+        return Verdict::Refused(Refusal::NotFinite);
+    }
+    match add(
+        prepared_binary32(),
+        direction,
+        read_finite(a),
+        read_finite(b),
+    ) {
+        NumberAnswer::Value(_) => Verdict::Passed,
+        NumberAnswer::Refused(why) => Verdict::Refused(why),
     }
 }
 

@@ -6,16 +6,17 @@ use Rattle.theory.specs.declared.Direction.{Direction}
 use Rattle.theory.specs.Wide.{Wide}
 use Rattle.theory.specs.Signed.{isNegative, roundZ}
 use Rattle.theory.proofs.Tests.{and-left, and-right}
-use Rattle.theory.proofs.Integers.{sum-parts, size-signed}
+use Rattle.theory.proofs.Integers.{sum-parts}
 use Rattle.theory.proofs.Neighbours.{neighbour-le}
 use Rattle.theory.proofs.Round.{round-neighbour}
 use Rattle.theory.proofs.Signed.{roundZ-size}
 use Rattle.format.specs.Published.{binary32}
 use Rattle.format.proofs.Formats.{positional}
 use Rattle.number.specs.Numbers.{greatest}
-use Rattle.binary32.specs.Patterns.{signOf, finite, magnitudeRead, patternValue}
+use Rattle.binary32.specs.Patterns.{finite, magnitudeRead, patternValue}
 use Rattle.binary32.proofs.Fields.{binary32-limits}
 use Rattle.binary32.proofs.PatternOrder.{magnitude-most}
+use Rattle.binary32.proofs.PatternValues.{value-size}
 use Rattle.boundaries.specs.declared.StepAnswer.{StepAnswer}
 use Rattle.boundaries.specs.Sums.{stripAdded, andOn, stepsFrom, boundarySteps}
 use Rattle.boundaries.specs.Steps.{smallStrip}
@@ -38,9 +39,8 @@ unfolding magnitudeRead top
 limit = leb-true _ _ refl
 
 small-size : (n : ℕ) → smallStrip n ≡ true → natAbs (patternValue n) ≤ top
-unfolding patternValue
 small-size n h =
-    le-trans (le-of-eq (size-signed (signOf n) (magnitudeRead n)))
+    le-trans (le-of-eq (value-size n))
     (le-trans (magnitude-most n 2030043135 (let l : n % 2 ^ 31 < 242 * 2 ^ 23 = ltb-true _ _ h in omega arith)) limit)
 
 -- 4,096 times 2 ^ 264 is not too large

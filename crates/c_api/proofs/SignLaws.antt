@@ -16,7 +16,7 @@ other-signs f x admits-f above =
     (λ h.
     let a = admits f admits-f in
     let m = members (numberIn x) a h in
-    let e : numberIn x .significand ≡ 2 ^ 32 - 1 = ap (λ (b : Bool). cond b (x .significand) (2 ^ 32 - 1)) (lt-leb (x .negative) 1 above) in
+    let e : numberIn x .significand ≡ 2 ^ 64 - 1 = ap (λ (b : Bool). cond b (x .significand) (2 ^ 64 - 1)) (lt-leb (x .negative) 1 above) in
     omega (arith, m .significand-high, a .power-high, e))
 
 -- what a call hands out comes back as it was

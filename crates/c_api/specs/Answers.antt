@@ -20,6 +20,7 @@ use Rattle.c_api.specs.declared.answers.OrderOut.{OrderOut}
 use Rattle.c_api.specs.declared.answers.PublishedOut.{PublishedOut}
 use Rattle.c_api.specs.declared.answers.TripleOut.{TripleOut}
 use Rattle.c_api.specs.declared.answers.CheckOut.{CheckOut}
+use Rattle.c_api.specs.declared.answers.Pattern64Out.{Pattern64Out}
 use Rattle.c_api.specs.declared.answers.SlicesOut.{SlicesOut}
 use Rattle.c_api.specs.declared.answers.IndexedOut.{IndexedOut}
 use Rattle.c_api.specs.declared.answers.StretchOut.{StretchOut}
@@ -49,7 +50,7 @@ indexedOut (refusedAt number index) = 1
 
 -- ---- numbers: C's sign is 0 or 1, and any other makes a number that is in no format
 abbrev pub numberIn : CNumber → Number
-numberIn x = record { negative = eqb (x .negative) 1; significand = cond (leb (x .negative) 1) (x .significand) (2 ^ 32 - 1); exponent = x .exponent }
+numberIn x = record { negative = eqb (x .negative) 1; significand = cond (leb (x .negative) 1) (x .significand) (2 ^ 64 - 1); exponent = x .exponent }
 
 abbrev pub numberFor : Number → CNumber
 numberFor x = record { negative = cond (x .negative) 1 0; significand = x .significand; exponent = x .exponent }
@@ -106,6 +107,10 @@ abbrev pub patternOut : Given ℕ → ℕ
 patternOut (gives n) = n
 patternOut (refused number) = number * 2 ^ 32
 patternOut (refusedAt number index) = number * 2 ^ 32
+
+-- a pattern of 64 bits and the refusal
+abbrev pub pattern64Out : Given ℕ → Pattern64Out
+pattern64Out g = record { refusal = refusalOut g; pattern = valueOut (λ (n : ℕ). n) 0 g }
 
 abbrev pub slicesOut : Given ℕ → SlicesOut
 slicesOut g = record { refusal = refusalOut g; index = indexOut g; inexact = valueOut (λ (n : ℕ). n) 0 g }

@@ -2,6 +2,7 @@
 // number, 0 for none, and whose other fields are zero at a refusal; a verdict or a pattern is a number.
 use arithmetic::RoundedAnswer;
 use binary32_arithmetic::SliceAnswer;
+use binary64::Pattern64Answer;
 use boundaries::BoundaryAnswer;
 use fast_two_sum::CheckAnswer;
 use fast_two_sum::StepsAnswer;
@@ -25,17 +26,18 @@ ghost use Rattle.arithmetic.specs.Marked.{roundedGiven};
 ghost use Rattle.fast_two_sum.specs.Answers.{stepsGiven};
 ghost use Rattle.fast_two_sum.specs.Answers.{checkGiven};
 ghost use Rattle.binary32_arithmetic.specs.Slices.{slicesGiven};
+ghost use Rattle.binary64.specs.Patterns.{pattern64Given};
 ghost use Rattle.saved_lines.specs.Lines.{lineGiven};
 ghost use Rattle.receivers.specs.Answers.{calmerGiven};
 ghost use Rattle.boundaries.specs.Sums as sums;
-ghost use Rattle.c_api.specs.Answers.{refusalOut, numberIn, numberFor, numberOut, markNumber, roundedOut, orderNumber, orderOut, publishedOut, tripleOut, checkOut, patternOut, slicesOut, countOut, stretchOut, SmallIndex};
+ghost use Rattle.c_api.specs.Answers.{refusalOut, numberIn, numberFor, numberOut, markNumber, roundedOut, orderNumber, orderOut, publishedOut, tripleOut, checkOut, patternOut, pattern64Out, slicesOut, countOut, stretchOut, SmallIndex};
 
-// A number: the sign is 0 for plus, 1 for minus.
+// A number: the sign is 0 for plus, 1 for minus. The order of the fields leaves no gap, so that a number is two registers.
 #[repr(C)]
 pub struct CNumber {
-    pub negative: u32,
     pub significand: Significand,
     pub exponent: i32,
+    pub negative: u32,
 }
 
 #[repr(C)]
@@ -50,6 +52,13 @@ pub struct RoundedOut {
     pub refusal: u32,
     pub mark: u32,
     pub number: CNumber,
+}
+
+// A pattern of 64 bits, which leaves no room for the refusal beside it in one number.
+#[repr(C)]
+pub struct Pattern64Out {
+    pub refusal: u32,
+    pub pattern: u64,
 }
 
 // The order is -1, 0 or 1: less, equal, greater.
@@ -112,7 +121,11 @@ pub fn number_in(x: CNumber) -> Number
 {
     let e = x.exponent;
     let m = x.significand;
-    let significand = if x.negative <= 1 { m } else { 4294967295 };
+    let significand = if x.negative <= 1 {
+        m
+    } else {
+        18446744073709551615
+    };
     Number {
         negative: x.negative == 1,
         significand: significand,
@@ -126,9 +139,9 @@ fn number_for(x: Number) -> CNumber
 {
     let negative = if x.negative { 1 } else { 0 };
     CNumber {
-        negative: negative,
         significand: x.significand,
         exponent: x.exponent,
+        negative: negative,
     }
 }
 
@@ -145,9 +158,9 @@ pub fn number_out(answer: NumberAnswer) -> NumberOut
         }
         NumberAnswer::Refused(why) => {
             let none = CNumber {
-                negative: 0,
                 significand: 0,
                 exponent: 0,
+                negative: 0,
             };
             NumberOut {
                 refusal: refusal_number(why),
@@ -183,9 +196,9 @@ pub fn rounded_out(answer: RoundedAnswer) -> RoundedOut
         }
         RoundedAnswer::Refused(why) => {
             let none = CNumber {
-                negative: 0,
                 significand: 0,
                 exponent: 0,
+                negative: 0,
             };
             RoundedOut {
                 refusal: refusal_number(why),
@@ -216,9 +229,9 @@ pub fn triple_out(answer: StepsAnswer) -> TripleOut
         }
         StepsAnswer::Refused(why) => {
             let none = CNumber {
-                negative: 0,
                 significand: 0,
                 exponent: 0,
+                negative: 0,
             };
             TripleOut {
                 refusal: refusal_number(why),
@@ -307,6 +320,21 @@ pub fn pattern_out(pattern: PatternAnswer) -> u64
     match pattern {
         PatternAnswer::Written(n) => n as u64,
         PatternAnswer::Refused(why) => refusal_number(why) as u64 * 4294967296,
+    }
+}
+
+pub fn pattern64_out(answer: Pattern64Answer) -> Pattern64Out
+    ensures { λ r. ⌜ r ≡ pattern64Out (pattern64Given answer) ⌝ }
+{
+    match answer {
+        Pattern64Answer::Written(n) => Pattern64Out {
+            refusal: 0,
+            pattern: n,
+        },
+        Pattern64Answer::Refused(why) => Pattern64Out {
+            refusal: refusal_number(why),
+            pattern: 0,
+        },
     }
 }
 

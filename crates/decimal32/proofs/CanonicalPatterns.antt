@@ -9,11 +9,10 @@ use Rattle.format.specs.Given.{gives}
 use Rattle.format.specs.Published.{decimal32}
 use Rattle.number.specs.declared.Number.{Number}
 use Rattle.number.specs.Numbers.{member}
-use Rattle.number.specs.Patterns.{signOf, signWeight}
 use Rattle.number.proofs.Membership.{members}
 use Rattle.number.proofs.Values.{place-there, number-canonical, member-canonical, member-highest}
 use Rattle.decimal32.specs.Declets.{decletValue, canonicalDeclet}
-use Rattle.decimal32.specs.Patterns.{fiveOf, sixOf, firstDeclet, secondDeclet, leadingDigit, highBits, finite, biasedOf, coefficientOf, magnitudeRead, numberRead, decimal32Read, fiveFor, patternAt, patternOf, decimal32Written}
+use Rattle.decimal32.specs.Patterns.{signOf, signWeight, fiveOf, sixOf, firstDeclet, secondDeclet, leadingDigit, highBits, finite, biasedOf, coefficientOf, magnitudeRead, numberRead, decimal32Read, fiveFor, patternAt, patternOf, decimal32Written}
 use Rattle.decimal32.proofs.DecletLaws.{value-small, declet-canonical, canonical-back}
 use Rattle.decimal32.proofs.Fields.{decimal32-limits, leading-small, finite-five}
 use Rattle.decimal32.proofs.RoundTrips.{reads, read-member, written-made, made-parts, made-finite, made-biased, made-coefficient}

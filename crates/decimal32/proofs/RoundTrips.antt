@@ -13,13 +13,12 @@ use Rattle.format.proofs.GivenLaws.{unless-gives}
 use Rattle.number.specs.declared.Number.{Number}
 use Rattle.number.specs.Numbers.{member, magnitude, value, number, greatest}
 use Rattle.number.specs.Checks.{checked}
-use Rattle.number.specs.Patterns.{signOf, signWeight}
 use Rattle.number.proofs.Membership.{members, member-made}
 use Rattle.number.proofs.Values.{member-highest, number-of, number-magnitude, number-value, number-member}
 use Rattle.number.proofs.CheckLaws.{checked-passed}
 use Rattle.number.proofs.PatternLaws.{sign-most}
 use Rattle.decimal32.specs.Declets.{decletFor}
-use Rattle.decimal32.specs.Patterns.{fiveOf, sixOf, firstDeclet, secondDeclet, leadingDigit, highBits, finite, biasedOf, coefficientOf, magnitudeRead, numberRead, decimal32Read, fiveFor, patternAt, patternOf, decimal32Written}
+use Rattle.decimal32.specs.Patterns.{signOf, signWeight, fiveOf, sixOf, firstDeclet, secondDeclet, leadingDigit, highBits, finite, biasedOf, coefficientOf, magnitudeRead, numberRead, decimal32Read, fiveFor, patternAt, patternOf, decimal32Written}
 use Rattle.decimal32.proofs.DecletLaws.{declet-fits, declet-back}
 use Rattle.decimal32.proofs.Fields.{decimal32-admitted, decimal32-limits, five-fits, biased-most, coefficient-small}
 
@@ -175,7 +174,7 @@ module _ (s : Bool) {m k : ℕ} (hm : m < 10 ^ 7) (hk : k ≤ 191) where
   made-fits =
       omega (
         arith,
-        sign-most s,
+        sign-most 31 s,
         five-fits {high = k / 2 ^ 6} {digit = m / 10 ^ 6} (omega arith) (omega arith),
         declet-fits {n = m / 10 ^ 3 % 10 ^ 3} (omega arith),
         declet-fits {n = m % 10 ^ 3} (omega arith),

@@ -10,10 +10,16 @@ use Rattle.format.specs.Published.{decimal32}
 use Rattle.number.specs.declared.Number.{Number}
 use Rattle.number.specs.Numbers.{placeOf, number}
 use Rattle.number.specs.Checks.{checked}
-use Rattle.number.specs.Patterns.{signOf, signWeight}
+use Rattle.number.specs.Patterns.{signAbove, weightAbove}
 use Rattle.decimal32.specs.Declets.{decletValue, decletFor}
 
--- ---- the parts of a pattern of 32 bits, beside the sign bit
+-- ---- the parts of a pattern of 32 bits
+abbrev pub signOf : ℕ → Bool
+signOf n = signAbove 31 n
+
+abbrev pub signWeight : (negative : Bool) → ℕ
+signWeight negative = weightAbove 31 negative
+
 -- the first five bits of the combination field, 30 to 26, and its other six, 25 to 20
 abbrev pub fiveOf : ℕ → ℕ
 fiveOf n = n / 2 ^ 26 % 2 ^ 5

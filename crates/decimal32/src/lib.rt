@@ -4,10 +4,8 @@ pub mod prepared;
 pub mod reading;
 pub mod writing;
 
-use format::Significand;
-
 // A significand at a place: significand * 10^place in units of 10^-101.
 pub struct Placed {
-    pub significand: Significand,
+    pub significand: u32,
     pub place: u32,
 }

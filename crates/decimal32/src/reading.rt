@@ -43,7 +43,7 @@ fn biased_of(pattern: u32) -> u32
 }
 
 // The coefficient: the leading digit and two declets.
-fn coefficient_of(pattern: u32) -> Significand
+fn coefficient_of(pattern: u32) -> u32
     ensures { λ r. ⌜ r ≡ coefficientOf pattern ⌝ }
 {
     let leading = leading_digit(five_of(pattern));
@@ -52,7 +52,7 @@ fn coefficient_of(pattern: u32) -> Significand
 }
 
 // The same value with all seven digits, or at place 0. Zero is at place 0.
-fn with_all_digits(coefficient: Significand, place: u32) -> Placed
+fn with_all_digits(coefficient: u32, place: u32) -> Placed
     requires { ⌜ coefficient < 10 ^ 7 ⌝ }
     ensures { λ r. ⌜ AllDigits coefficient place r ⌝ }
 {
@@ -92,7 +92,7 @@ fn read_finite(pattern: u32) -> Number
     number_at(
         prepared_decimal32(),
         negative,
-        digits.significand,
+        digits.significand as Significand,
         digits.place,
     )
 }

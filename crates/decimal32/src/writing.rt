@@ -2,7 +2,6 @@
 use crate::declets::declet_for;
 use crate::prepared::prepared_decimal32;
 use format::Preparation;
-use format::Significand;
 use format::admission::distance;
 use number::Number;
 use number::PatternAnswer;
@@ -29,7 +28,7 @@ fn five_for(high: u32, digit: u32) -> u32
 }
 
 // The pattern with this sign, coefficient and biased exponent.
-fn pattern_at(negative: bool, m: Significand, k: u32) -> u32
+fn pattern_at(negative: bool, m: u32, k: u32) -> u32
     requires { ⌜ (m < 10 ^ 7) × (k ≤ 191) ⌝ }
     ensures { λ r. ⌜ r ≡ patternAt negative m k ⌝ }
 {
@@ -45,7 +44,8 @@ fn pattern_of(x: Number) -> u32
     ensures { λ r. ⌜ r ≡ patternOf x ⌝ }
 {
     let place = distance(-101, x.exponent);
-    pattern_at(x.negative, x.significand, place)
+    let significand = x.significand as u32;
+    pattern_at(x.negative, significand, place)
 }
 
 // The pattern of a number. Refuses 3.

@@ -33,7 +33,7 @@ pub record Admitted (f : Format) : Type 0 where
   pub base-low : 2 ≤ f .base
   pub base-high : f .base ≤ 256
   pub digits-low : 1 ≤ f .digits
-  pub digits-high : f .digits ≤ 31
+  pub digits-high : f .digits ≤ 63
   pub power-high : f .base ^ f .digits ≤ greatestPower
   pub range : Exponents (f .emin) (f .emax)
 

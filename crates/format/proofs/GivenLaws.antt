@@ -1,10 +1,13 @@
 -- What a call gives is one thing: values are no refusal.
 use Rattle.theory.proofs.Prelude.{ℕ, true, false, Bool, _≡_, refl, arith}
 use Rattle.theory.specs.Tests.{unless}
-use Rattle.format.specs.Given.{gives, refused, refusedAt}
+use Rattle.format.specs.Given.{Given, gives, refused, refusedAt}
 
 pub gives-same : {A : Type 0} {x y : A} → gives x ≡ gives y → x ≡ y
 gives-same h = cc
+
+pub refused-same : {A : Type 0} {m n : ℕ} → _≡_ {A = Given A} (refused m) (refused n) → m ≡ n
+refused-same h = cc
 
 pub gives-not-refused : {A : Type 0} {x : A} {n : ℕ} → gives x ≡ refused n → ⊥
 gives-not-refused h = let z : _≡_ {A = ℕ} 0 1 = cc in omega arith

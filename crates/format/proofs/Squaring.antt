@@ -1,12 +1,12 @@
 -- Powers by repeated squaring, and the shift that is a power of two.
-use Rattle.theory.proofs.Prelude.{ℕ, _≤_, _<_, _+_, _^_, _*_, suc, zero, _%_, _/_, _∙_, ap, _≡_, sym, refl, mul-le-mul-right, mul-le-mul-left, pow-zero, pow-succ', arith}
+use Rattle.theory.proofs.Prelude.{ℕ, _≤_, _<_, _+_, _^_, _*_, suc, zero, _%_, _/_, _∙_, ap, _≡_, sym, mul-le-mul-right, mul-le-mul-left, pow-zero, pow-succ', arith}
 use native.Mathlib.Nat.{one-le-pow}
 use lib.Dec.{lit<}
 use lib.Pow.{shl-exact}
 
 -- 1 shifted by k places
-pub one-shl : (k : ℕ) → k < 32 → (1 * 2 ^ k) % 2 ^ 32 ≡ 2 ^ k
-one-shl k h = shl-exact {a = 1} 1 k 32 (lit< tt) (omega arith) ∙ omega arith
+pub one-shl : (k : ℕ) → k < 64 → (1 * 2 ^ k) % 2 ^ 64 ≡ 2 ^ k
+one-shl k h = shl-exact {a = 1} 1 k 64 (lit< tt) (omega arith) ∙ omega arith
 
 pub square-power : (s q : ℕ) → s ^ (q + q) ≡ (s * s) ^ q
 square-power s zero = pow-zero s ∙ sym (pow-zero (s * s))
@@ -38,20 +38,27 @@ pub way-even : {P r s n : ℕ} → Way P r s n → ¬ (n % 2 ≡ 1) → Way P (r
 way-even {P} {r} {s} {n} w h =
     record { is = omega (arith, w .is, ap (λ (x : ℕ). r * x) (even-power s n h)); some = omega (arith, w .some); least = omega (arith, mul-le-mul-left s (w .least), w .least) }
 
--- the square is at most the power, while something is left
-pub way-square : {P r s : ℕ} (n : ℕ) → Way P r s n → ¬ (n ≡ 0) → r * s ≤ P
-way-square zero w h = absurd (h refl)
-way-square {P} {r} {s} (suc n) w h =
-    omega (arith, w .is, ap (λ (x : ℕ). r * x) (pow-succ' s n), mul-le-mul-left (r * s) (one-le-pow n s (w .least)))
+-- while more than one is left, what is collected and the square twice are at most the power
+pub way-twice : {P r s : ℕ} (n : ℕ) → Way P r s n → 2 ≤ n → r * (s * s) ≤ P
+way-twice zero w h = absurd (omega arith)
+way-twice (suc zero) w h = absurd (omega arith)
+way-twice {P} {r} {s} (suc (suc n)) w h =
+    let two : s ^ suc (suc n) ≡ s * s * s ^ n = pow-succ' s (suc n) ∙ ap (λ (x : ℕ). s * x) (pow-succ' s n) ∙ omega arith in
+    omega (arith, w .is, ap (λ (x : ℕ). r * x) two, mul-le-mul-left (r * (s * s)) (one-le-pow n s (w .least)))
 
-pub way-end : {P r s : ℕ} → Way P r s 0 → r ≡ P
-way-end {P} {r} {s} w = omega (arith, w .is, ap (λ (x : ℕ). r * x) (pow-zero s))
+-- so the next product and the next square are at most the power
+pub way-product : {P r s : ℕ} (n : ℕ) → Way P r s n → 2 ≤ n → r * s ≤ P
+way-product {P} {r} {s} n w h = omega (arith, way-twice n w h, mul-le-mul-left (r * s) (w .least))
+
+pub way-square : {P r s : ℕ} (n : ℕ) → Way P r s n → 2 ≤ n → s * s ≤ P
+way-square {P} {r} {s} n w h = omega (arith, way-twice n w h, mul-le-mul-right (s * s) (w .some))
+
+-- what is left at the end: one factor, or none
+pub way-none : {P r s : ℕ} → Way P r s 0 → r * 1 ≡ P
+way-none {P} {r} {s} w = omega (arith, w .is, ap (λ (x : ℕ). r * x) (pow-zero s))
+
+pub way-one : {P r s : ℕ} → Way P r s 1 → r * s ≡ P
+way-one {P} {r} {s} w = ap (λ (x : ℕ). r * x) (sym (pow-succ' s 0 ∙ rw (pow-zero s) (omega arith))) ∙ w .is
 
 pub way-first : (b k : ℕ) → 2 ≤ b → Way (b ^ k) 1 b k
 way-first b k h = record { is = omega arith; some = omega arith; least = omega arith }
-
--- the next square fits into 64 bits
-pub square-fits : {P r s : ℕ} (n : ℕ) → Way P r s n → ¬ (n ≡ 0) → P ≤ 2 ^ 31 → s * s < 2 ^ 64
-square-fits {P} {r} {s} n w h m =
-    let low : s ≤ 2 ^ 31 = omega (arith, way-square n w h, mul-le-mul-right s (w .some)) in
-    omega (arith, mul-le-mul-left s low, mul-le-mul-right (2 ^ 31) low)

@@ -16,17 +16,17 @@ use Rattle.format.specs.Given.{Given, gives, refused}
 
 -- what no power of an admitted format exceeds
 abbrev pub greatestPower : ℕ
-greatestPower = 2 ^ 31
+greatestPower = 2 ^ 63
 
 -- -1200 ≤ Emin ≤ Emax ≤ 1200
 unfoldable pub exponentsAdmitted : (emin emax : ℤ) → Bool
 exponentsAdmitted emin emax = leZ (negsuc 1199) emin and leZ emin emax and leZ emax (pos 1200)
 
--- 2 ≤ β ≤ 256, 1 ≤ p ≤ 31, β ^ p ≤ 2 ^ 31, and the exponents
+-- 2 ≤ β ≤ 256, 1 ≤ p ≤ 63, β ^ p ≤ 2 ^ 63, and the exponents
 unfoldable pub admitted : Format → Bool
 admitted f =
     leb 2 (f .base) and leb (f .base) 256
-    and leb 1 (f .digits) and leb (f .digits) 31
+    and leb 1 (f .digits) and leb (f .digits) 63
     and leb (f .base ^ f .digits) greatestPower
     and exponentsAdmitted (f .emin) (f .emax)
 

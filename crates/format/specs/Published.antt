@@ -13,10 +13,18 @@ binary32 = record { base = 2; digits = 24; emin = negsuc 148; emax = pos 104 }
 abbrev pub decimal32 : Format
 decimal32 = record { base = 10; digits = 7; emin = negsuc 100; emax = pos 90 }
 
+abbrev pub binary64 : Format
+binary64 = record { base = 2; digits = 53; emin = negsuc 1073; emax = pos 971 }
+
+abbrev pub decimal64 : Format
+decimal64 = record { base = 10; digits = 16; emin = negsuc 397; emax = pos 369 }
+
 -- the format that is published under a number, or refusal 10
 unfoldable pub publishedFormat : ℕ → Given Format
 publishedFormat zero = refused 10
 publishedFormat (suc zero) = gives binary16
 publishedFormat (suc (suc zero)) = gives binary32
 publishedFormat (suc (suc (suc zero))) = gives decimal32
-publishedFormat (suc (suc (suc (suc n)))) = refused 10
+publishedFormat (suc (suc (suc (suc zero)))) = gives binary64
+publishedFormat (suc (suc (suc (suc (suc zero))))) = gives decimal64
+publishedFormat (suc (suc (suc (suc (suc (suc n)))))) = refused 10

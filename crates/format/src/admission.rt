@@ -4,6 +4,7 @@ use crate::Preparation;
 use crate::Prepared;
 use crate::Refusal;
 use crate::Scale;
+use crate::Significand;
 use crate::Verdict;
 use crate::powers::fits;
 use crate::powers::power;
@@ -42,7 +43,7 @@ fn is_admitted(format: Format) -> bool
     if digits < 1 {
         return false;
     }
-    if 31 < digits {
+    if 63 < digits {
         return false;
     }
     if !fits(base, digits) {
@@ -69,11 +70,12 @@ pub fn prepare(format: Format) -> Preparation
     let base = format.base;
     let digits = format.digits;
     let least = power(base, digits - 1);
+    let bound = least * base as Significand;
     let scale = Scale {
         base: base,
         digits: digits,
         least: least,
-        bound: least * base,
+        bound: bound,
     };
     Preparation::Ready(Prepared {
         format: format,

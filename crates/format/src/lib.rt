@@ -6,7 +6,7 @@ pub mod published;
 pub mod refusals;
 
 // The type of significands and of the powers that bound them.
-pub type Significand = u32;
+pub type Significand = u64;
 
 // Base, digits, lowest and highest exponent of the whole-number significand.
 #[repr(C)]

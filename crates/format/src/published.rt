@@ -6,8 +6,8 @@ ghost use mathlib.Core.Path.{_≡_};
 ghost use Rattle.format.specs.Given.{formatGiven};
 ghost use Rattle.format.specs.Published.{publishedFormat};
 
-// binary16, binary32 and decimal32, under the numbers 1, 2 and 3.
-const FORMATS: [Format; 3] = [
+// binary16, binary32, decimal32, binary64 and decimal64, under the numbers 1 to 5.
+const FORMATS: [Format; 5] = [
     Format {
         base: 2,
         digits: 11,
@@ -26,6 +26,18 @@ const FORMATS: [Format; 3] = [
         emin: -101,
         emax: 90,
     },
+    Format {
+        base: 2,
+        digits: 53,
+        emin: -1074,
+        emax: 971,
+    },
+    Format {
+        base: 10,
+        digits: 16,
+        emin: -398,
+        emax: 369,
+    },
 ];
 
 // The format that is published under `number`. Refuses 10.
@@ -35,7 +47,7 @@ pub fn published(number: u32) -> FormatAnswer
     if number < 1 {
         return FormatAnswer::Refused(Refusal::NoSuchFormat);
     }
-    if 3 < number {
+    if 5 < number {
         return FormatAnswer::Refused(Refusal::NoSuchFormat);
     }
     let at = (number - 1) as usize;

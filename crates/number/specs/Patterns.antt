@@ -1,10 +1,10 @@
--- What the patterns of every format of 32 bits share: the sign bit, the highest.
+-- What the patterns of every format share: the sign bit, the highest, above so many other bits.
 use Prim.Native.Nat.{ℕ, _^_}
 use mathlib.Core.Bool.{Bool, cond}
 use lib.Dec.{leb}
 
-abbrev pub signOf : (pattern : ℕ) → Bool
-signOf n = leb (2 ^ 31) n
+abbrev pub signAbove : (bits pattern : ℕ) → Bool
+signAbove bits n = leb (2 ^ bits) n
 
-abbrev pub signWeight : (negative : Bool) → ℕ
-signWeight negative = cond negative (2 ^ 31) 0
+abbrev pub weightAbove : (bits : ℕ) (negative : Bool) → ℕ
+weightAbove bits negative = cond negative (2 ^ bits) 0

@@ -64,7 +64,7 @@ pub fn enter_two(format: Format, a: Number, b: Number) -> Preparation
 pub fn check_number(format: Format, x: Number) -> Verdict
     ensures { λ r. ⌜ verdictGiven r ≡ checked format [] (x ∷ []) (gives tt) ⌝ }
 {
-    match enter(format, x) {
+    match with_number(prepare(format), x) {
         Preparation::Refused(why) => Verdict::Refused(why),
         Preparation::Ready(_) => Verdict::Passed,
     }

@@ -15,6 +15,6 @@ unfoldable pub use Rattle.rounding.specs.Location.{located}
 pub use Rattle.rounding.specs.Location.{ranked, markOf}
 unfoldable pub use Rattle.rounding.specs.Cut.{cutOf, exactly, dropped}
 pub use Rattle.rounding.specs.Cut.{Rounds}
-pub use Rattle.rounding.proofs.Scales.{positional, power-at, power-next, power-one, power-most, power-beyond, unit-next, unit-bound, unit-most, count-le, count-most, count-room, digits-most, least-bound, least-most, least-unit, square, square-most}
+pub use Rattle.rounding.proofs.Scales.{positional, power-at, power-next, power-one, power-most, power-beyond, unit-next, unit-bound, unit-most, unit-pos, unit-two, count-le, count-most, count-room, digits-most, digits-twice, bound-pos, least-bound, least-most, least-unit, square, square-most, words-most, word-is, low-is, product-high, share-steps, share-rest, high-below, less-taken, less-left}
 pub use Rattle.rounding.proofs.Locations.{located-exact, located-below, located-half, located-above, located-scaled}
-pub use Rattle.rounding.proofs.Places.{extend-small, divisor-fits, cut-is, cut-drop, cut-extend}
+pub use Rattle.rounding.proofs.Places.{extend-small, drop-small, divisor-fits, cut-is, cut-drop, cut-extend, dropped-made, parts-steps, parts-rest, twice-steps, twice-rest}

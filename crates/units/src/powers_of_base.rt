@@ -36,7 +36,7 @@ pub fn leading_power(scale: Scale, m: Significand) -> Significand
     if m == 0 {
         return 0;
     }
-    let base = scale.base;
+    let base = scale.base as Significand;
     let bound = m / base;
     let mut power: Significand = 1;
     while power <= bound {
@@ -50,10 +50,11 @@ pub fn trailing_zeros(base: u32, m: Significand) -> u32
     requires { ⌜ (2 ≤ base) × (1 ≤ m) ⌝ }
     ensures { λ r. ⌜ r ≡ zeros base m ⌝ }
 {
+    let factor = base as Significand;
     let mut rest = m;
     let mut count: u32 = 0;
-    while rest % base == 0 {
-        rest = rest / base;
+    while rest % factor == 0 {
+        rest = rest / factor;
         count = count + 1;
     }
     count

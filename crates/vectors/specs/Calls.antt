@@ -1,5 +1,5 @@
 -- The calls of the rows, in the order of their numbers.
-use Prim.Native.Nat.{ℕ}
+use Prim.Native.Nat.{ℕ, _%_, _^_}
 use mathlib.Core.Bool.{Bool, true, false}
 use mathlib.Core.List.{List, [], _∷_}
 use lib.ListN.{getD}
@@ -47,6 +47,10 @@ inexactWhole g = g then λ x. gives (whole false (inexact (x .mark)))
 abbrev pub firstOfSteps : Given Steps → Given Number
 firstOfSteps g = g then λ s. gives (s .x)
 
+-- a pattern or a denominator, which stands as a significand
+abbrev pub lowWord : ℕ → ℕ
+lowWord n = n % 2 ^ 32
+
 -- ---- the operations
 abbrev pub calls : Format → (d : ℕ) (a b : Number) → List (Given Number)
 calls f d a b =
@@ -54,22 +58,22 @@ calls f d a b =
     ∷ withoutMark (differenceAnswer f d a b)
     ∷ withoutMark (productAnswer f d a b)
     ∷ withoutMark (quotientAnswer f d a b)
-    ∷ withoutMark (fractionAnswer f d (a .exponent) (b .significand))
+    ∷ withoutMark (fractionAnswer f d (a .exponent) (lowWord (b .significand)))
     ∷ wholeOrder (compared f a b)
     ∷ unsigned f a
     ∷ negated f a
     ∷ predecessorOf f a
     ∷ successorOf f a
     ∷ firstPlace f a
-    ∷ patternNumber (patternCall Sum d (a .significand) (b .significand))
-    ∷ patternNumber (patternCall Difference d (a .significand) (b .significand))
-    ∷ patternNumber (patternCall Product d (a .significand) (b .significand))
-    ∷ patternNumber (patternCall Quotient d (a .significand) (b .significand))
+    ∷ patternNumber (patternCall Sum d (lowWord (a .significand)) (lowWord (b .significand)))
+    ∷ patternNumber (patternCall Difference d (lowWord (a .significand)) (lowWord (b .significand)))
+    ∷ patternNumber (patternCall Product d (lowWord (a .significand)) (lowWord (b .significand)))
+    ∷ patternNumber (patternCall Quotient d (lowWord (a .significand)) (lowWord (b .significand)))
     ∷ inexactWhole (sumAnswer f d a b)
     ∷ inexactWhole (differenceAnswer f d a b)
     ∷ inexactWhole (productAnswer f d a b)
     ∷ inexactWhole (quotientAnswer f d a b)
-    ∷ decimal32Read (a .significand)
+    ∷ decimal32Read (lowWord (a .significand))
     ∷ patternNumber (decimal32Written a)
     ∷ []
 

@@ -10,12 +10,12 @@ use Rattle.theory.specs.Tests.{_and_}
 use Rattle.format.specs.Given.{Given, gives, refused, refusedAt}
 use Rattle.number.specs.declared.Number.{Number}
 use Rattle.vectors.specs.declared.rows.Tally.{Tally}
-use Rattle.vectors.specs.Columns.{columns, rowLength, areColumns, wordAt, integerAt}
+use Rattle.vectors.specs.Columns.{columns, rowLength, areColumns, columnAt, wordAt, integerAt}
 use Rattle.vectors.specs.Calls.{whole, answerOf}
 
 -- the number in columns c to c + 2; the sign 1 is minus
 unfoldable pub numberAt : (row : List ℕ) (c : ℕ) → Number
-numberAt row c = record { negative = eqb (wordAt row c) 1; significand = wordAt row (c + 1); exponent = integerAt row (c + 2) }
+numberAt row c = record { negative = eqb (wordAt row c) 1; significand = columnAt row (c + 1); exponent = integerAt row (c + 2) }
 
 -- what the call answers
 unfoldable pub rowAnswer : (row : List ℕ) → Given Number

@@ -7,6 +7,7 @@ use decimal32::writing::write_decimal32;
 use fast_two_sum::StepsAnswer;
 use fast_two_sum::sum::fast_two_sum;
 use format::Format;
+use format::Significand;
 use number::Number;
 use number::NumberAnswer;
 use number::OrderAnswer;
@@ -22,7 +23,7 @@ ghost use Rattle.fast_two_sum.specs.Answers.{stepsGiven};
 ghost use Rattle.vectors.specs.Calls.{whole, wholeOrder, patternNumber, inexactWhole, firstOfSteps, answerOf};
 
 // A whole number.
-pub fn whole(negative: bool, n: u32) -> Number
+pub fn whole(negative: bool, n: Significand) -> Number
     ensures { λ r. ⌜ r ≡ whole negative n ⌝ }
 {
     Number {
@@ -51,13 +52,13 @@ fn pattern_number(pattern: PatternAnswer) -> NumberAnswer
     ensures { λ r. ⌜ numberGiven r ≡ patternNumber (patternGiven pattern) ⌝ }
 {
     match pattern {
-        PatternAnswer::Written(n) => NumberAnswer::Value(whole(false, n)),
+        PatternAnswer::Written(n) => NumberAnswer::Value(whole(false, n as Significand)),
         PatternAnswer::Refused(why) => NumberAnswer::Refused(why),
     }
 }
 
 // 1 for a mark that is not exact.
-fn inexact_flag(mark: Mark) -> u32
+fn inexact_flag(mark: Mark) -> Significand
     ensures { λ r. ⌜ r ≡ inexact mark ⌝ }
 {
     match mark {
@@ -93,12 +94,12 @@ fn first_step(steps: StepsAnswer) -> NumberAnswer
     }
 }
 
-// What the operation with this number answers; the last is the three-step sum.
+// What the operation with this number answers; the last is the three-step sum. Patterns and a denominator stand as significands.
 pub fn answer_of(operation: u32, format: Format, d: u32, a: Number, b: Number) -> NumberAnswer
     ensures { λ r. ⌜ numberGiven r ≡ answerOf operation format d a b ⌝ }
 {
-    let m = a.significand;
-    let n = b.significand;
+    let m = (a.significand % 4294967296) as u32;
+    let n = (b.significand % 4294967296) as u32;
     match operation {
         0 => unmarked(arithmetic::sum::sum(format, d, a, b)),
         1 => unmarked(arithmetic::sum::difference(format, d, a, b)),

@@ -14,13 +14,15 @@ pub const ROW_LENGTH: usize = 17 * COLUMNS;
 // What a damaged column reads as: no column may hold it.
 const DAMAGED: u64 = 9223372036854775808;
 
-// A column may hold the numbers that are below its limit once its shift is added: the number of an operation, a sign, or 32 bits, U
-// numbers from 0 on or from -I on.
+// A column may hold the numbers that are below its limit once its shift is added: the number of an operation, a sign, a significand or a
+// pattern (below S), or 32 bits, U numbers from 0 on or from -I on.
+const S: u64 = DAMAGED;
+
 const U: u64 = 4294967296;
 
 const I: u64 = 2147483648;
 
-const LIMITS: [u64; COLUMNS] = [22, U, U, U, U, U, 2, U, U, 2, U, U, U, 2, U, U];
+const LIMITS: [u64; COLUMNS] = [22, U, U, U, U, U, 2, S, U, 2, S, U, U, 2, S, U];
 
 const SHIFTS: [u64; COLUMNS] = [0, 0, 0, I, I, 0, 0, 0, I, 0, 0, I, 0, 0, 0, I];
 
@@ -28,7 +30,7 @@ const SHIFTS: [u64; COLUMNS] = [0, 0, 0, I, I, 0, 0, 0, I, 0, 0, I, 0, 0, 0, I];
 const ENDS: [u8; COLUMNS] = *b"               \n";
 
 // The 16 digits at column c.
-fn column_at(row: &[u8], c: usize) -> u64
+pub fn column_at(row: &[u8], c: usize) -> u64
     requires { ⌜ (rowLength ≤ length (now row)) × (c < columns) ⌝ }
     ensures { λ r. ⌜ r ≡ columnAt (now (row .entry)) c ⌝ }
 {

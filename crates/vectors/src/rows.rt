@@ -27,7 +27,7 @@ fn number_at(row: &[u8], c: usize) -> Number
 {
     Number {
         negative: columns::word(row, c) == 1,
-        significand: columns::word(row, c + 1),
+        significand: columns::column_at(row, c + 1),
         exponent: columns::integer(row, c + 2),
     }
 }

@@ -69,6 +69,11 @@ module _ {w n : ℕ} (β : ℕ) (h : n < w) where
       let both = digits-only (places - (k - i)) exact (mod-lt (r * β ^ i) (omega arith)) in
       record { quotient = both .0; remainder = both .1; within = omega (arith, t .within) }
 
+  -- the same by their unit, and what the division gave
+  pub taken-group : {places q r k unit d e : ℕ} (i : ℕ) → unit ≡ β ^ i → d ≡ r * unit / w → e ≡ r * unit % w → Taken β n w places q r k → i ≤ k
+      → Taken β n w places (q * unit + d) e (k - i)
+  taken-group i u f g t l = rw (f, g, u) (taken-next i t l)
+
 -- a group of digits is below its unit, and the quotient has room for it
 pub record Turn (unit bound w q r : ℕ) : Type 0 where
   pub group : r * unit / w < unit

@@ -1,15 +1,11 @@
 -- The product's exact value and its bounds.
-use Rattle.theory.proofs.Prelude.{ℕ, _≤_, _<_, _+_, _^_, _*_, suc, _≡_, mul-le-mul, arith}
-use Rattle.rounding.proofs.Prelude.{pow-add, Scale, Scaled}
+use Rattle.theory.proofs.Prelude.{ℕ, _<_, _+_, _^_, _*_, _≡_, mul-le-mul, arith}
+use Rattle.rounding.proofs.Prelude.{pow-add}
 use Rattle.rounding.specs.declared.Wide.{Wide}
-use Rattle.wide.specs.Operand.{Bounded, sizeOf}
+use Rattle.wide.specs.Operand.{sizeOf}
 
-module _ {s : Scale} (h : Scaled s) {x y : Wide} (hx : Bounded s x) (hy : Bounded s y) where
-  pub product-small : x .significand * y .significand < s .bound * s .bound
-  product-small =
-      let x-most : suc (x .significand) ≤ s .bound = omega (arith, hx .canonical .small, h .bound-power) in
-      let y-most : suc (y .significand) ≤ s .bound = omega (arith, hy .canonical .small, h .bound-power) in
-      omega (arith, mul-le-mul x-most y-most)
+pub product-small : {B a b : ℕ} → a < B → b < B → a * b < B * B
+product-small l m = omega (arith, mul-le-mul l m)
 
-  pub product-value : (up : ℕ) → x .significand * y .significand * s .base ^ (x .place + y .place + up) ≡ sizeOf (s .base) x * sizeOf (s .base) y * s .base ^ up
-  product-value up = rw (pow-add (s .base) (x .place + y .place) up, pow-add (s .base) (x .place) (y .place)) (omega arith)
+pub product-value : (β : ℕ) (x y : Wide) (up : ℕ) → x .significand * y .significand * β ^ (x .place + y .place + up) ≡ sizeOf β x * sizeOf β y * β ^ up
+product-value β x y up = rw (pow-add β (x .place + y .place) up, pow-add β (x .place) (y .place)) (omega arith)

@@ -1,5 +1,5 @@
 -- The cut of a sum, where the numbers overlap and where they are far apart.
-use Rattle.theory.proofs.Prelude.{ℕ, _≤_, _<_, _+_, _^_, _*_, _-_, suc, true, false, Bool, cond, not, Bool·beq, ⊎-elim, inl, inr, _≢_, _∙_, ap, _≡_, sym, refl, ap₂, subst, mul-le-mul-right, mul-le-mul-left, pow-zero, mul-pos, mul-lt-mul-of-pos-right, le-antisymm, add-zero, le-of-mul-le-mul-left, arith, ℤ, _+ℤ_, natAbs, boolByte}
+use Rattle.theory.proofs.Prelude.{ℕ, _≤_, _<_, _+_, _^_, _*_, _-_, suc, true, false, Bool, cond, not, Bool·beq, ⊎-elim, inl, inr, _≢_, _∙_, ap, _≡_, sym, refl, ap₂, subst, mul-le-mul-right, mul-le-mul-left, pow-zero, mul-pos, mul-lt-mul-of-pos-right, lt-of-mul-lt-mul-right, le-antisymm, add-zero, le-of-mul-le-mul-left, arith, ℤ, _+ℤ_, natAbs, boolByte}
 use native.Mathlib.Nat.{sub-zero}
 use Rattle.rounding.proofs.Prelude.{Positional, Canonical, Direction, signed, pow-add, pow-pos, pow-pred, pow-mono, pow-half, Scale, Scaled, Location, Exact, Below, Above, cutOf, Rounds, located, located-exact, located-below, located-above, located-scaled, cut-is, positional, power-at, least-bound}
 use Rattle.theory.proofs.Integers.{size-signed}
@@ -7,10 +7,10 @@ use Rattle.rounding.specs.declared.Cut.{Cut}
 use Rattle.rounding.specs.declared.Wide.{Wide}
 use Rattle.rounding.specs.declared.Rounding.{Rounding}
 use Rattle.wide.specs.Operand.{Bounded, sizeOf, valueOf}
-use Rattle.wide.specs.Sum.{Adds, SumCut, RoundsZ, belowPower}
+use Rattle.wide.specs.Sum.{Adds, InUnits, SumCut, RoundsZ, belowPower}
 use Rattle.wide.proofs.Sizes.{sum-size}
 use Rattle.wide.proofs.Finishes.{finishes}
-use Rattle.wide.proofs.Signs.{sum-agree, sum-differ, sum-none, sub-times}
+use Rattle.wide.proofs.Signs.{sum-agree, sum-differ, sum-none, sub-times, adds-agree, adds-differ}
 
 -- a sign and a magnitude of z make its cut
 pub sum-cut-made : (s : Scale) {z : ℤ} {a : Bool} {c : Cut} (n : ℕ) → z ≡ signed a n → c ≡ cutOf (s .base) (s .digits) n 1 → SumCut s z a c
@@ -31,12 +31,6 @@ module _ {s : Scale} (h : Scaled s) {x y : Wide} (hx : Bounded s x) (hy : Bounde
       let x-most : suc (x .significand) ≤ s .bound = omega (arith, hx .canonical .small) in
       omega (arith, hy .canonical .small, mul-le-mul-left (x .significand) w-most, mul-le-mul-right (s .bound) x-most)
 
-  pub near-below : x .significand * w + y .significand < w * s .bound * s .base
-  near-below =
-      let w-some : 1 ≤ w = omega (arith, pow-pos (h .base-least) gap) in
-      let x-most : suc (x .significand) ≤ s .bound = omega (arith, hx .canonical .small, h .bound-power) in
-      omega (arith, hy .canonical .small, h .bound-power, mul-le-mul-right w x-most, mul-le-mul-left (s .bound) w-some, mul-le-mul-left (w * s .bound) (h .base-least))
-
   near-scaled : sizeOf (s .base) x ≡ x .significand * w * s .base ^ y .place
   near-scaled = rw (at, pow-add, pw) (omega arith)
 
@@ -47,6 +41,52 @@ module _ {s : Scale} (h : Scaled s) {x y : Wide} (hx : Bounded s x) (hy : Bounde
       sum-cut-made s (n * s .base ^ y .place)
       (ap (λ (v : ℕ). signed (x .negative) v +ℤ valueOf (s .base) y) near-scaled ∙ add .sum (s .base ^ y .place))
       (e ∙ ap (cutOf (s .base) (s .digits) (n * s .base ^ y .place)) (pow-zero (s .base)))
+
+-- ---- the lower number in units of the higher place
+-- q steps of w = base ^ j and a rest of w, where q has all its digits
+pub unit-cut : {s : Scale} → Scaled s → {q r w : ℕ} (j place : ℕ) → w ≡ s .base ^ j → s .least ≤ q → q < s .bound → r < w
+    → cutOf (s .base) (s .digits) ((q * w + r) * s .base ^ place) (s .base ^ 0) ≡ record { steps = q; place = place + j; location = located r w }
+unit-cut {s} h {q} {r} {w} j place e l m k =
+    let B : ℕ = s .base ^ place in
+    let some : 1 ≤ B = pow-pos (h .base-least) place in
+    let unit : s .base ^ (place + j) ≡ B * w = pow-add (s .base) place j ∙ ap (λ (v : ℕ). B * v) (sym e) in
+    let power : s .base ^ (s .digits + (place + j)) ≡ s .bound * (B * w) = pow-add (s .base) (s .digits) (place + j) ∙ ap₂ _*_ (sym (h .bound-power)) unit in
+    let below : (q * w + r) * B < s .bound * w * B = mul-lt-mul-of-pos-right (omega (arith, mul-le-mul-right w m)) some in
+    let above : s .base * (s .least * w * B) ≤ s .base * ((q * w + r) * B) =
+    mul-le-mul-left (s .base) (mul-le-mul-right B (omega (arith, mul-le-mul-right w l))) in
+    cut-is (positional h) (pow-pos (h .base-least) 0) q r w 1 B
+    (record {
+      below = rw (pow-zero, power) (omega (arith, below));
+      normal = inr (rw (pow-zero, power) (omega (arith, above, ap (λ (v : ℕ). v * (w * B)) (least-bound h))));
+    })
+    (omega arith) some (omega arith) (rw (pow-zero, unit) (omega arith)) k
+
+module _ {m v unit given taken rest : ℕ} {t : Bool} (u : InUnits m v unit t given taken rest) where
+  -- so many units and the rest are the sum
+  pub units-add : (a b : Bool) → not (Bool·beq a b) ≡ t → taken ≤ given → Adds a (m * unit) b v a ((given - taken) * unit + rest)
+  units-add a b e l = by (Bool·beq a b) refl
+    where
+      by : (c : Bool) → Bool·beq a b ≡ c → Adds a (m * unit) b v a ((given - taken) * unit + rest)
+      by true f =
+          let k = u .more (sym e ∙ ap not f) in
+          rw (k .1, sub-zero given, k .0) (adds-agree a b f (m * unit) v)
+      by false f =
+          let k = u .less (sym e ∙ ap not f) in
+          let most : taken * unit ≤ m * unit = mul-le-mul-right unit (omega (arith, k .1)) in
+          let size : (given - taken) * unit + rest ≡ m * unit - v =
+          omega (arith, sub-times given taken unit l, ap (λ (n : ℕ). n * unit) (k .1), k .0) in
+          rw size (adds-differ a b f (m * unit) v (omega (arith, k .0)))
+
+  -- they are few
+  pub units-most : {bound : ℕ} → m < bound → v < bound → given < 2 * bound
+  units-most {bound} h k = by t refl
+    where
+      by : (c : Bool) → t ≡ c → given < 2 * bound
+      by true e = omega (arith, u .less e .1)
+      by false e =
+          let some : 1 ≤ unit = omega (arith, u .small) in
+          lt-of-mul-lt-mul-right unit {m = given} {n = 2 * bound}
+          (omega (arith, u .more e .0, mul-le-mul-right unit h, mul-le-mul-left bound some))
 
 -- ---- the numbers are far apart
 -- a value is m steps and a rest, where m at k is in canonical form

@@ -34,7 +34,6 @@ pub record Grouped (s : Scale) (q place unit count : ℕ) : Type 0 where
   pub some : 1 ≤ count
   pub within : count ≤ place
   pub room : (q + 1) * unit ≤ s .bound
-  pub word : unit * s .base ≤ 2 ^ 31
 
 -- the digits of n / w at the places from `places` - 1 down to k are q, and r remains
 pub record Taken (β n w places q r k : ℕ) : Type 0 where

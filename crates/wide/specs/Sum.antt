@@ -1,7 +1,7 @@
 -- The sum of two numbers.
-use Prim.Native.Nat.{ℕ, _^_, _+_, _*_, _-_, _≤_}
+use Prim.Native.Nat.{ℕ, _^_, _+_, _*_, _-_, _≤_, _<_}
 use mathlib.Core.Path.{_≡_}
-use mathlib.Core.Bool.{Bool}
+use mathlib.Core.Bool.{Bool, true, false}
 use lib.IntN.{ℤ, natAbs, _+ℤ_}
 use Rattle.theory.specs.declared.Direction.{Direction}
 use Rattle.theory.specs.declared.Location.{Location}
@@ -22,6 +22,13 @@ pub record RoundsZ (β p : ℕ) (d : Direction) (z : ℤ) (r : Rounding) : Type 
 pub record Adds (a : Bool) (v : ℕ) (b : Bool) (w : ℕ) (c : Bool) (n : ℕ) : Type 0 where
   pub sum : (t : ℕ) → signed a (v * t) +ℤ signed b (w * t) ≡ signed c (n * t)
   pub most : n ≤ v + w
+
+-- m units and v more, or less where the signs differ, are given - taken units and a rest
+pub record InUnits (m v unit : ℕ) (differ : Bool) (given taken rest : ℕ) : Type 0 where
+  pub more : differ ≡ false → (given * unit + rest ≡ m * unit + v) × (taken ≡ 0)
+  pub less : differ ≡ true → (taken * unit ≡ v + rest) × (given ≡ m)
+  pub small : rest < unit
+  pub taken-most : taken ≤ v
 
 -- z has this sign (either, where z is 0), and r is the cut of its magnitude
 pub record SumCut (s : Scale) (z : ℤ) (negative : Bool) (r : Cut) : Type 0 where

@@ -6,8 +6,12 @@ use rounding::Rounding;
 use rounding::choice::finish;
 use rounding::choice::locate;
 use rounding::cutting::cut;
+use rounding::digits::power;
 use theory::Direction;
 use theory::Location;
+use two_words::TwoWords;
+use two_words::product::product;
+use two_words::quotient::divide;
 ghost use mathlib.Core.Path.{_≡_};
 ghost use Prim.Native.Nat.{ℕ, _*_, _<_, _≤_, _^_};
 ghost use Rattle.format.specs.Formats.{Scaled};
@@ -49,30 +53,26 @@ fn align(base: u32, n: u32, d: u32) -> Aligned
     Aligned { divisor, place }
 }
 
-// How many digits the next turn takes: as long as none stands, all that the format keeps, or all but one where their power is too
-// large for a word, where so many places are left; then one at a time.
+// How many digits the next turn takes: as long as none stands, all that the format keeps, or all that are left; then one at a time.
 fn next_group(scale: Scale, quotient: Significand, place: u32) -> Group
     requires { ⌜ Scaled scale × (quotient < scale .least) × (1 ≤ place) ⌝ }
     ensures { λ r. ⌜ Grouped scale quotient place (r .unit) (r .count) ⌝ }
 {
-    let all = scale.digits;
-    let next = scale.bound as u64 * scale.base as u64;
-    if quotient == 0 && all <= place && next <= 2147483648 {
+    if quotient != 0 {
         return Group {
-            unit: scale.bound,
-            count: all,
+            unit: scale.base as Significand,
+            count: 1,
         };
     }
-    let many = scale.digits - 1;
-    if quotient == 0 && 1 <= many && many <= place {
+    if place < scale.digits {
         return Group {
-            unit: scale.least,
-            count: many,
+            unit: power(scale, place),
+            count: place,
         };
     }
     Group {
-        unit: scale.base,
-        count: 1,
+        unit: scale.bound,
+        count: scale.digits,
     }
 }
 
@@ -108,10 +108,9 @@ fn take_digits(scale: Scale, n: u32, divisor: u64, places: u32) -> Division
             };
         }
         let group = next_group(scale, quotient, place);
-        let lowered = remainder * group.unit as u64;
-        let digits = (lowered / divisor) as Significand;
-        quotient = quotient * group.unit + digits;
-        remainder = lowered % divisor;
+        let digits = divide(product(remainder, group.unit), divisor);
+        quotient = quotient * group.unit + digits.quotient;
+        remainder = digits.remainder;
         place = place - group.count;
     };
     division
@@ -125,7 +124,11 @@ fn cut_division(scale: Scale, division: Division, divisor: u64) -> Cut
         → r ≡ cutOf (scale .base) (scale .digits) N D) ⌝ }
 {
     if division.remainder == 0 {
-        return cut(scale, division.quotient as u64, division.place, 0);
+        let quotient = TwoWords {
+            high: 0,
+            low: division.quotient,
+        };
+        return cut(scale, quotient, division.place, 0);
     }
     let location = locate(division.remainder, divisor);
     Cut {

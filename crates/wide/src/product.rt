@@ -1,5 +1,6 @@
 // The product: the significands' product, cut.
 use format::Scale;
+use format::Significand;
 use rounding::Cut;
 use rounding::Rounding;
 use rounding::Wide;
@@ -7,6 +8,7 @@ use rounding::choice::finish;
 use rounding::cutting::cut;
 use rounding::cutting::cut_long;
 use theory::Direction;
+use two_words::TwoWords;
 ghost use mathlib.Core.Path.{_≡_};
 ghost use mathlib.Core.Bool.{xor};
 ghost use Prim.Native.Nat.{_*_, _<_, _^_};
@@ -14,16 +16,28 @@ ghost use Rattle.format.specs.Formats.{Scaled};
 ghost use Rattle.rounding.specs.Cut.{cutOf, Rounds};
 ghost use Rattle.wide.specs.Operand.{Bounded, sizeOf};
 
-// The cut of n * base ^ up / base ^ down, where n is the product of two significands: mostly it has all their digits, or one less.
-fn product_cut(scale: Scale, n: u64, up: u32, down: u32) -> Cut
-    requires { ⌜ Scaled scale × (n < scale .bound * scale .bound) × (up < 2 ^ 30) × (down < 2 ^ 30) ⌝ }
-    ensures { λ r. ⌜ r ≡ cutOf (scale .base) (scale .digits) (n * scale .base ^ up) (scale .base ^ down) ⌝ }
+// The cut of a * b * base ^ up / base ^ down: mostly both have all their digits.
+fn product_cut(scale: Scale, a: Significand, b: Significand, up: u32, down: u32) -> Cut
+    requires { ⌜ Scaled scale × (a < scale .bound) × (b < scale .bound) × (up < 2 ^ 30) × (down < 2 ^ 30) ⌝ }
+    ensures { λ r. ⌜ r ≡ cutOf (scale .base) (scale .digits) (a * b * scale .base ^ up) (scale .base ^ down) ⌝ }
 {
-    let least = scale.least as u64;
-    if least * least <= n {
-        return cut_long(scale, n, up, down, least, scale.digits - 1);
+    let least = scale.least;
+    let shift = scale.digits - 1;
+    let n = two_words::product::product(a, b);
+    if (up + shift < down) | (a < least) | (b < least) {
+        let made = Scale {
+            base: scale.base,
+            digits: scale.digits,
+            least: scale.least,
+            bound: scale.bound,
+        };
+        let words = TwoWords {
+            high: n.high,
+            low: n.low,
+        };
+        return cut(made, words, up, down);
     }
-    cut(scale, n, up, down)
+    cut_long(scale, n, up, down, least, shift)
 }
 
 // x * y * base ^ up / base ^ down, rounded.
@@ -32,7 +46,12 @@ pub fn product(scale: Scale, direction: Direction, x: Wide, y: Wide, up: u32, do
     ensures { λ r. ⌜ Rounds (scale .base) (scale .digits) direction (xor (x .negative) (y .negative))
         (sizeOf (scale .base) x * sizeOf (scale .base) y * scale .base ^ up) (scale .base ^ down) r ⌝ }
 {
-    let n = x.significand as u64 * y.significand as u64;
-    let exact = product_cut(scale, n, x.place + y.place + up, down);
+    let exact = product_cut(
+        scale,
+        x.significand,
+        y.significand,
+        x.place + y.place + up,
+        down,
+    );
     finish(scale, direction, x.negative != y.negative, exact)
 }

@@ -6,12 +6,15 @@ use rounding::Rounding;
 use rounding::Wide;
 use rounding::choice::finish;
 use rounding::choice::locate;
-use rounding::cutting::divide;
 use rounding::digits::digit_count;
 use rounding::digits::power;
 use theory::Direction;
 use theory::Location;
 use theory::Mark;
+use two_words::TwoWords;
+use two_words::product::product;
+use two_words::quotient::divide;
+use two_words::sums::less;
 ghost use mathlib.Core.Path.{_≡_};
 ghost use mathlib.Core.Bool.{xor};
 ghost use Prim.Native.Nat.{_+_, _*_, _<_, _≤_, _^_};
@@ -23,7 +26,7 @@ ghost use Rattle.wide.specs.Quotient.{Leading, Shifted};
 
 // A significand with all its digits, and how many were added.
 pub struct Normal {
-    pub value: u64,
+    pub value: Significand,
     pub shift: u32,
 }
 
@@ -32,34 +35,59 @@ fn normalise(scale: Scale, m: Significand) -> Normal
     requires { ⌜ Scaled scale × (1 ≤ m) × (m < scale .bound) ⌝ }
     ensures { λ r. ⌜ Shifted scale m (r .value) (r .shift) ⌝ }
 {
-    let shift = scale.digits - digit_count(scale, m as u64);
+    let shift = scale.digits - digit_count(scale, m);
     Normal {
-        value: m as u64 * power(scale, shift),
+        value: m * power(scale, shift),
         shift: shift,
     }
 }
 
 // a * unit divided by b.
-fn divide_shifted(scale: Scale, a: u64, b: u64, unit: u64, place: u32) -> Cut
+fn divide_shifted(
+    scale: Scale,
+    a: Significand,
+    b: Significand,
+    unit: Significand,
+    place: u32,
+) -> Cut
     requires { ⌜ Scaled scale × Leading scale b × (a * unit < b * scale .bound) ⌝ }
     ensures { λ r. ⌜ r ≡ dropped (a * unit) b place ⌝ }
 {
-    divide(scale, a * unit, b, place)
+    let division = divide(product(a, unit), b);
+    let steps = division.quotient;
+    let location = locate(division.remainder, b);
+    Cut {
+        steps: steps,
+        place: place,
+        location: location,
+    }
 }
 
 // Where a lies in b * base ^ e.
-fn locate_under(scale: Scale, a: u64, b: u64, e: u32) -> Location
+fn locate_under(scale: Scale, a: Significand, b: Significand, e: u32) -> Location
     requires { ⌜ Scaled scale × Leading scale a × Leading scale b × (1 ≤ e) ⌝ }
     ensures { λ r. ⌜ r ≡ located a (b * scale .base ^ e) ⌝ }
 {
-    if e == 1 {
-        return locate(a, b * scale.base as u64);
+    if 1 < e {
+        return Location::Below;
     }
-    Location::Below
+    let twice = TwoWords {
+        high: 0,
+        low: 2 * a,
+    };
+    let whole = product(b, scale.base as Significand);
+    if less(twice, whole) {
+        return Location::Below;
+    }
+    if less(whole, twice) {
+        Location::Above
+    } else {
+        Location::Half
+    }
 }
 
 // The cut of a * base ^ high / (b * base ^ low), where a and b have all their digits.
-fn quotient_cut(scale: Scale, a: u64, b: u64, high: u32, low: u32) -> Cut
+fn quotient_cut(scale: Scale, a: Significand, b: Significand, high: u32, low: u32) -> Cut
     requires { ⌜ Scaled scale × Leading scale a × Leading scale b × (high < 2 ^ 30) × (low < 2 ^ 30) ⌝ }
     ensures { λ r. ⌜ r ≡ cutOf (scale .base) (scale .digits) (a * scale .base ^ high) (b * scale .base ^ low) ⌝ }
 {
@@ -69,19 +97,21 @@ fn quotient_cut(scale: Scale, a: u64, b: u64, high: u32, low: u32) -> Cut
         digits = digits - 1;
         unit = scale.least;
     }
+    if high < low {
+        let location = locate_under(scale, a, b, low - high);
+        return Cut {
+            steps: 0,
+            place: 0,
+            location: location,
+        };
+    }
+    let mut place: u32 = 0;
     if low + digits <= high {
-        return divide_shifted(scale, a, b, unit as u64, high - (low + digits));
+        place = high - (low + digits);
+    } else {
+        unit = power(scale, high - low);
     }
-    if low <= high {
-        let part = power(scale, high - low);
-        return divide_shifted(scale, a, b, part, 0);
-    }
-    let location = locate_under(scale, a, b, low - high);
-    Cut {
-        steps: 0,
-        place: 0,
-        location: location,
-    }
+    divide_shifted(scale, a, b, unit, place)
 }
 
 // x * base ^ up / (y * base ^ down), rounded.

@@ -6,82 +6,163 @@ use rounding::Rounding;
 use rounding::Wide;
 use rounding::choice::finish;
 use rounding::choice::locate;
+use rounding::choice::locate_twice;
 use rounding::cutting::cut;
-use rounding::cutting::cut_long;
+use rounding::cutting::split;
 use rounding::digits::power;
 use theory::Direction;
 use theory::Location;
+use two_words::TwoWords;
+use two_words::WordQuotient;
+use two_words::product::product;
+use two_words::sums::add;
+use two_words::sums::less;
+use two_words::sums::subtract;
 ghost use mathlib.Core.Path.{_≡_};
+ghost use mathlib.Core.Bool.{cond};
 ghost use Prim.Native.Nat.{_+_, _*_, _<_, _≤_, _^_};
 ghost use lib.IntN.{_+ℤ_};
+ghost use Rattle.two_words.specs.Amount.{amount};
 ghost use Rattle.format.specs.Formats.{Scaled};
 ghost use Rattle.rounding.specs.Cut.{cutOf};
 ghost use Rattle.rounding.specs.Digits.{Unit};
 ghost use Rattle.wide.specs.Operand.{Bounded, valueOf};
-ghost use Rattle.wide.specs.Sum.{Adds, SumCut, RoundsZ, belowPower};
+ghost use Rattle.wide.specs.Sum.{Adds, InUnits, SumCut, RoundsZ, belowPower};
 
 // A sign and a magnitude, in any unit.
 pub struct SignedSize {
     pub negative: bool,
-    pub size: u64,
+    pub size: TwoWords,
 }
 
-// The sum of two signed magnitudes of one unit. Both the sum and the difference are worked out, and the struct is made of selected
-// values: made in two branches it would be branched on.
-fn add_signed(a: bool, v: u64, b: bool, w: u64) -> SignedSize
-    requires { ⌜ v + w < 2 ^ 64 ⌝ }
-    ensures { λ r. ⌜ Adds a v b w (r .negative) (r .size) ⌝ }
+// The whole number of units given - taken, and a rest.
+pub struct UnitSum {
+    pub given: u64,
+    pub taken: u64,
+    pub rest: u64,
+}
+
+// One of two numbers, selected word by word: made in two branches it would be branched on.
+fn select(test: bool, yes: TwoWords, no: TwoWords) -> TwoWords
+    ensures { λ r. ⌜ r ≡ cond test yes no ⌝ }
 {
-    let total = v + w;
+    let high = if test { yes.high } else { no.high };
+    let low = if test { yes.low } else { no.low };
+    TwoWords { high, low }
+}
+
+// The sum of two signed magnitudes of one unit. Both the sum and the difference are worked out.
+fn add_signed(a: bool, v: TwoWords, b: bool, w: TwoWords) -> SignedSize
+    requires { ⌜ (amount v + amount w < 2 ^ 128) × (w .high < 2 ^ 63) ⌝ }
+    ensures { λ r. ⌜ Adds a (amount v) b (amount w) (r .negative) (amount (r .size)) ⌝ }
+{
+    let total = add(v, w);
     let mut greater = a;
-    let mut difference: u64 = 0;
-    if w <= v {
-        difference = v - w;
-    } else {
+    let mut larger = v;
+    let mut smaller = w;
+    if less(v, w) {
         greater = b;
-        difference = w - v;
+        larger = w;
+        smaller = v;
     }
+    let difference = subtract(larger, smaller);
     let same = a == b;
     let negative = if same { a } else { greater };
-    let size = if same { total } else { difference };
+    let size = select(same, total, difference);
     SignedSize {
         negative: negative,
         size: size,
     }
 }
 
-// The cut of n * base ^ place, where unit = base ^ gap: mostly n has `gap` digits beyond the format's, or one more.
-fn near_cut(scale: Scale, n: u64, place: u32, unit: u64, gap: u32) -> Cut
-    requires { ⌜ Scaled scale × Unit scale unit gap × (n < unit * scale .bound * scale .base) × (n < scale .bound * scale .bound) × (place < 2 ^ 28) ⌝ }
-    ensures { λ r. ⌜ r ≡ cutOf (scale .base) (scale .digits) (n * scale .base ^ place) (scale .base ^ 0) ⌝ }
+// The sum of two numbers whose places differ by at most `digits`, exactly, in two words: where it does not have all its digits in units of
+// the higher place.
+fn exact_sum(scale: Scale, direction: Direction, x: Wide, y: Wide, gap: u32) -> Rounding
+    requires { ⌜ Scaled scale × Bounded scale x × Bounded scale y × (x .place ≡ y .place + gap) × (gap ≤ scale .digits) ⌝ }
+    ensures { λ r. ⌜ RoundsZ (scale .base) (scale .digits) direction (valueOf (scale .base) x +ℤ valueOf (scale .base) y) r ⌝ }
 {
-    if unit * scale.least as u64 <= n {
-        return cut_long(scale, n, place, 0, unit, gap);
-    }
-    cut(scale, n, place, 0)
+    let unit = power(scale, gap);
+    let high = product(x.significand, unit);
+    let low = TwoWords {
+        high: 0,
+        low: y.significand,
+    };
+    let exact = add_signed(x.negative, high, y.negative, low);
+    let cut = cut(scale, exact.size, y.place, 0);
+    finish(scale, direction, exact.negative, cut)
 }
 
-// The sum of two numbers whose places differ by at most `digits`.
+// `m` units with or without `part`, as units and a rest.
+fn add_part(m: Significand, part: WordQuotient, unit: Significand, differ: bool) -> UnitSum
+    requires { ⌜ (m < 2 ^ 63) × (part .quotient < 2 ^ 63) × (part .remainder < unit) ⌝ }
+    ensures { λ r. ⌜ InUnits m (part .quotient * unit + part .remainder) unit differ (r .given) (r .taken) (r .rest) ⌝ }
+{
+    let quotient = part.quotient;
+    let remainder = part.remainder;
+    let sum = m + quotient;
+    let upper = quotient + (remainder != 0) as u64;
+    let missing = if remainder == 0 { 0 } else { unit - remainder };
+    let given = if differ { m } else { sum };
+    let taken = if differ { upper } else { 0 };
+    let rest = if differ { missing } else { remainder };
+    UnitSum { given, taken, rest }
+}
+
+// The cut of (steps * unit + rest) * base ^ place, where unit = base ^ gap and the steps have all the digits of the format, or one more.
+fn near_cut(scale: Scale, steps: u64, rest: u64, place: u32, unit: Significand, gap: u32) -> Cut
+    requires { ⌜ Scaled scale × Unit scale unit gap × (scale .least ≤ steps) × (steps < 2 * scale .bound) × (rest < unit) × (place < 2 ^ 28) ⌝ }
+    ensures { λ r. ⌜ r ≡ cutOf (scale .base) (scale .digits) ((steps * unit + rest) * scale .base ^ place) (scale .base ^ 0) ⌝ }
+{
+    if steps < scale.bound {
+        let location = locate(rest, unit);
+        return Cut {
+            steps: steps,
+            place: place + gap,
+            location: location,
+        };
+    }
+    let base = scale.base as Significand;
+    let word = TwoWords {
+        high: 0,
+        low: steps,
+    };
+    let parts = split(scale, word, base, 1);
+    let location = locate_twice(parts.remainder, base, rest, unit);
+    Cut {
+        steps: parts.quotient,
+        place: place + gap + 1,
+        location: location,
+    }
+}
+
+// The sum of two numbers whose places differ by at most `digits`: the lower one is brought to the place of the higher one.
 fn near_sum(scale: Scale, direction: Direction, x: Wide, y: Wide, gap: u32) -> Rounding
     requires { ⌜ Scaled scale × Bounded scale x × Bounded scale y × (x .place ≡ y .place + gap) × (gap ≤ scale .digits) ⌝ }
     ensures { λ r. ⌜ RoundsZ (scale .base) (scale .digits) direction (valueOf (scale .base) x +ℤ valueOf (scale .base) y) r ⌝ }
 {
     let unit = power(scale, gap);
-    let high = x.significand as u64 * unit;
-    let exact = add_signed(x.negative, high, y.negative, y.significand as u64);
-    let cut = near_cut(scale, exact.size, y.place, unit, gap);
-    finish(scale, direction, exact.negative, cut)
+    let word = TwoWords {
+        high: 0,
+        low: y.significand,
+    };
+    let part = split(scale, word, unit, gap);
+    let sum = add_part(x.significand, part, unit, x.negative != y.negative);
+    if sum.given < scale.least + sum.taken {
+        return exact_sum(scale, direction, x, y, gap);
+    }
+    let cut = near_cut(scale, sum.given - sum.taken, sum.rest, y.place, unit, gap);
+    finish(scale, direction, x.negative, cut)
 }
 
 // Where base ^ (gap - 1) - m lies in base ^ (gap - 1).
 fn below_power(scale: Scale, m: Significand, gap: u32) -> Location
-    requires { ⌜ Scaled scale × (m < scale .bound) × (scale .digits < gap) ⌝ }
+    requires { ⌜ Scaled scale × (1 ≤ m) × (m < scale .bound) × (scale .digits < gap) ⌝ }
     ensures { λ r. ⌜ r ≡ belowPower (scale .base) m gap ⌝ }
 {
     if scale.digits + 1 < gap {
         return Location::Above;
     }
-    locate((scale.bound - m) as u64, scale.bound as u64)
+    locate(scale.bound - m, scale.bound)
 }
 
 // The cut of a sum of two numbers whose places differ by more, with the sign of x: |y| is below half a step of x, and below a whole step

@@ -4,7 +4,7 @@ use Rattle.format.specs.Given.{gives}
 use Rattle.format.specs.Published.{binary32}
 use Rattle.number.specs.Checks.{entered}
 use Rattle.number.proofs.CheckLaws.{passed, one-member, ready-entered, number-after, goes-on, ends}
-use Rattle.binary32.specs.Patterns.{patternWritten}
+use Rattle.binary32.specs.Patterns.{patternOf, patternWritten}
 use Rattle.binary32.proofs.Fields.{binary32-admitted}
 use Rattle.binary32.proofs.patterns.write_pattern.Statement.{statement}
 use Rattle.binary32.proofs.patterns.write_pattern.Tie as tie
@@ -17,7 +17,7 @@ unfolding patternWritten
 returns c = ends _ _ _ _ (sym (checked (c .before .before .before)) ∙ c .before .why .given .1)
 
 returns-2 : tie.Need-returns-2
-unfolding patternWritten
+unfolding patternWritten patternOf
 returns-2 c =
     let k = c .before in
     ap gives (c .pattern-of .ensures) ∙ goes-on _ _ _ _ (sym (checked (k .before .before)) ∙ k .enum-told .given .1)

@@ -13,6 +13,11 @@ power-requires : tie.Need-power-requires
 power-requires c κs =
     (omega arith, omega arith, omega (arith, pow-mono {β = 2} (omega arith) {i = c .place-of .result} {j = 22} (omega (arith, c .place-of .ensures, c .before .if2 .taken))))
 
+cast-written : tie.Need-cast-written
+cast-written c =
+    let p = c .before in
+    omega (arith, c .power .ensures, pow-mono {β = 2} (omega arith) {i = p .place-of .result} {j = 22} (omega (arith, p .place-of .ensures, p .before .if2 .taken)))
+
 returns-2 : tie.Need-returns-2
 returns-2 c =
     let t = c .before .before in
@@ -22,5 +27,5 @@ pub ulp-spec : {M : Type 1} → statement M
 ulp-spec =
     tie.close
     (tie.spec
-    (λ c. ulp-zero _ (c .before .pre) (c .if1 .taken)) (λ c κs. search needs) power-requires returns-2 (λ c. search needs) (λ c. search needs)
+    (λ c. ulp-zero _ (c .before .pre) (c .if1 .taken)) (λ c κs. search needs) power-requires cast-written returns-2 (λ c. search needs) (λ c. search needs)
     (λ c. ulp-normal _ (c .before .before .pre) (c .if2 .left)))

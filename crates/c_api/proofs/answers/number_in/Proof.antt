@@ -6,7 +6,7 @@ use Rattle.c_api.proofs.answers.number_in.Statement.{statement}
 use Rattle.c_api.proofs.answers.number_in.Tie as tie
 
 abbrev significand : CNumber → Bool → ℕ
-significand x b = cond b (x .significand) (2 ^ 32 - 1)
+significand x b = cond b (x .significand) (2 ^ 64 - 1)
 
 chosen : (c : tie.Joined1) → let x = c .before .before .before .args .x in c .if1 .significand ≡ significand x (leb (x .negative) 1)
 chosen c =

@@ -32,15 +32,16 @@ with-all-digits-requires c κs = rw (c .before .coefficient-of .ensures) (coeffi
 
 number-at-requires : tie.Need-number-at-requires
 number-at-requires c κs =
-    let d = c .before in
+    let p = c .before in
+    let d = p .before in
     let b = d .before in
     let m = b .before in
-    ready (m .before .args .pattern) (c .prepared-decimal32 .ensures) (m .coefficient-of .ensures) (b .biased-of .ensures) (d .with-all-digits .ensures) (m .before .pre)
+    ready (m .before .args .pattern) (p .prepared-decimal32 .ensures) (m .coefficient-of .ensures) (b .biased-of .ensures) (d .with-all-digits .ensures) (m .before .pre)
 
 returns : tie.Need-returns
 unfolding numberRead
 returns c =
-    let p = c .before in
+    let p = c .before .before in
     let d = p .before in
     let b = d .before in
     let m = b .before in
@@ -54,5 +55,6 @@ read-finite-spec =
     (λ c κs. search needs)
     with-all-digits-requires
     (λ c κs. search needs)
+    (λ c. search needs)
     number-at-requires
     returns)

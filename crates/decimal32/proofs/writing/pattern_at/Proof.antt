@@ -1,9 +1,8 @@
 -- `decimal32::writing::pattern_at` meets its contract: the five parts fill 32 bits.
 use Rattle.theory.proofs.Prelude.{ℕ, _≤_, _<_, _^_, _/_, _%_, Bool, _≡_, arith, needs}
-use Rattle.number.specs.Patterns.{signWeight}
 use Rattle.number.proofs.PatternLaws.{sign-most}
 use Rattle.decimal32.specs.Declets.{decletFor}
-use Rattle.decimal32.specs.Patterns.{fiveFor}
+use Rattle.decimal32.specs.Patterns.{signWeight, fiveFor}
 use Rattle.decimal32.proofs.DecletLaws.{declet-fits}
 use Rattle.decimal32.proofs.Fields.{five-fits}
 use Rattle.decimal32.proofs.writing.pattern_at.Statement.{statement}
@@ -25,7 +24,7 @@ parts : (s : Bool) (m k : ℕ) {v f a b : ℕ} → m < 10 ^ 7 → k ≤ 191 → 
 parts s m k hm hk v f a b =
     record {
       sign-is = v;
-      sign-high = rw v (sign-most s);
+      sign-high = rw v (sign-most 31 s);
       five-is = f;
       five-most = rw f (five-fits {high = k / 64} {digit = m / 1000000} (omega arith) (omega arith));
       first-is = a;

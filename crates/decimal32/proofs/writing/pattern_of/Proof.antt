@@ -25,14 +25,16 @@ distance-requires c κs = rw (back (exponent-fits (c .before))) (member-exponent
 
 pattern-at-requires : tie.Need-pattern-at-requires
 pattern-at-requires c κs =
-    let i = inside (c .before .before) in
-    (i .significand-high, omega (arith, place-is c, member-highest decimal32-limits i))
+    let d = c .before in
+    let i = inside (d .before .before) in
+    (i .significand-high, omega (arith, place-is d, member-highest decimal32-limits i))
 
 returns : tie.Need-returns
 unfolding patternOf
 returns c =
-    let x = c .before .before .before .args .x in
-    c .pattern-at .ensures ∙ ap (patternAt (x .negative) (x .significand)) (place-is (c .before))
+    let d = c .before .before in
+    let x = d .before .before .args .x in
+    c .pattern-at .ensures ∙ ap (patternAt (x .negative) (x .significand)) (place-is d)
 
 pub pattern-of-spec : {M : Type 1} → statement M
-pattern-of-spec = tie.close (tie.spec distance-requires pattern-at-requires returns)
+pattern-of-spec = tie.close (tie.spec distance-requires (λ c. omega (arith, inside (c .before .before .before) .significand-high)) pattern-at-requires returns)

@@ -16,7 +16,7 @@ emax-fits : (c : tie.Start) → SFits w32 (c .args .format .emax)
 emax-fits c = search needs
 
 -- the exponents decide where the base and the digits pass
-last : (f : Format) → 2 ≤ f .base → f .base ≤ 256 → 1 ≤ f .digits → f .digits ≤ 31 → leb (f .base ^ f .digits) greatestPower ≡ true
+last : (f : Format) → 2 ≤ f .base → f .base ≤ 256 → 1 ≤ f .digits → f .digits ≤ 63 → leb (f .base ^ f .digits) greatestPower ≡ true
     → exponentsAdmitted (f .emin) (f .emax) ≡ admitted f
 unfolding admitted _and_
 last f b₁ b₂ d₁ d₂ p = rw (le-leb _ _ b₁, le-leb _ _ b₂, le-leb _ _ d₁, le-leb _ _ d₂, p, _and_)

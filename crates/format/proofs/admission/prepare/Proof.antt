@@ -30,8 +30,8 @@ returns c = sym (unless-failed _ _ (denied (c .before .is-admitted .ensures) (c 
 power-requires : tie.Need-power-requires
 power-requires c κs = let a = passed c in (a .base-low, a .base-high, le-trans (least-bound a) (a .power-high))
 
-mul-t9 : tie.Need-mul-t9
-mul-t9 c = let a = passed (c .before) in rw (c .power .ensures, ← bound-least a) (omega arith)
+mul-bound : tie.Need-mul-bound
+mul-bound c = let a = passed (c .before) in rw (c .power .ensures, ← bound-least a) (omega arith)
 
 distance-requires : tie.Need-distance-requires
 distance-requires c κs =
@@ -53,4 +53,4 @@ pub prepare-spec : {M : Type 1} → statement M
 prepare-spec =
     tie.close
     (tie.spec
-    (λ c κs. search needs) returns (λ c. passed c .digits-low) power-requires mul-t9 distance-requires returns-2)
+    (λ c κs. search needs) returns (λ c. passed c .digits-low) power-requires (λ c. search needs) mul-bound distance-requires returns-2)

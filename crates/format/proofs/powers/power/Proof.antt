@@ -5,7 +5,7 @@ use Rattle.format.proofs.Squaring.{one-shl}
 use Rattle.format.proofs.powers.power.Statement.{statement}
 use Rattle.format.proofs.powers.power.Tie as tie
 
-exponent : (c : tie.Start) → c .args .k < 32
+exponent : (c : tie.Start) → c .args .k < 64
 exponent c = exponent-most (c .args .base) (c .args .k) (c .pre .0) (c .pre .2)
 
 returns : tie.Need-returns

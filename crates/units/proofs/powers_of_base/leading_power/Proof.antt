@@ -1,5 +1,5 @@
 -- `units::powers_of_base::leading_power` meets its contract: the loop climbs through the powers of the base that are at most m.
-use Rattle.theory.proofs.Prelude.{ℕ, _≤_, _<_, _^_, _*_, _-_, suc, _/_, _∙_, ap, _≡_, sym, subst, mul-le-mul-left, pow-zero, div-lt-iff-lt-mul, pow-suc, le-div-iff-mul-le, mul-comm, arith}
+use Rattle.theory.proofs.Prelude.{ℕ, _≤_, _<_, _^_, _*_, _-_, suc, _/_, _∙_, ap, _≡_, sym, subst, mul-le-mul-left, pow-zero, div-lt-iff-lt-mul, pow-suc, le-div-iff-mul-le, mul-comm, arith, needs}
 use Rattle.theory.specs.Units.{ufp}
 use Rattle.theory.proofs.Powers.{pow-pos, pow-pred}
 use Rattle.theory.proofs.Units.{ufp-unique}
@@ -39,15 +39,15 @@ unfolding ufp
 returns-2 c = let s = c .before .before .before in sym (ap (ufp (s .args .scale .base)) (c .if2 .taken))
 
 div-bound : tie.Need-div-bound Inv-loop μ-loop
-div-bound c = let h = c .before .before .before .pre .0 in omega (arith, h .base-least)
+div-bound c = let h = c .before .before .before .before .pre .0 in omega (arith, h .base-least)
 
 loop-holds : tie.Need-loop-holds Inv-loop μ-loop
 loop-holds c =
-    let s = c .before .before .before in
-    record { exponent = 0; is = sym (pow-zero (s .args .scale .base)); most = omega (arith, c .if2 .left) }
+    let s = c .before .before .before .before in
+    record { exponent = 0; is = sym (pow-zero (s .args .scale .base)); most = omega (arith, c .before .if2 .left) }
 
 abbrev start : tie.At-loop Inv-loop μ-loop → tie.Start Inv-loop μ-loop
-start c = c .before .before .before .before
+start c = c .before .before .before .before .before
 
 -- the next power is at most m too
 next : (c : tie.In-loop Inv-loop μ-loop) → c .before .loop .power * start (c .before) .args .scale .base ≤ start (c .before) .args .m
@@ -81,4 +81,4 @@ pub leading-power-spec : {M : Type 1} → statement M
 leading-power-spec =
     tie.close
     (tie.spec
-    Inv-loop μ-loop returns returns-2 div-bound loop-holds (λ c. omega (arith, next c, start (c .before) .fits .m)) loop-less loop-again returns-3)
+    Inv-loop μ-loop returns returns-2 (λ c. search needs) div-bound loop-holds (λ c. omega (arith, next c, start (c .before) .fits .m)) loop-less loop-again returns-3)

@@ -1,21 +1,23 @@
 -- `units::powers_of_base::trailing_zeros` meets its contract: the loop takes the zeros off one by one.
-use Rattle.theory.proofs.Prelude.{ℕ, _≤_, _<_, _+_, _^_, _*_, _-_, suc, zero, _%_, _/_, _∙_, ap, _≡_, sym, refl, subst, mul-le-mul-right, mul-le-mul-left, pow-zero, div-add-mod', pow-suc, mul-one, add-one, arith}
+use Rattle.theory.proofs.Prelude.{ℕ, _≤_, _<_, _+_, _^_, _*_, _-_, suc, zero, _%_, _/_, _∙_, ap, _≡_, sym, refl, subst, mul-le-mul-right, mul-le-mul-left, pow-zero, div-add-mod', pow-suc, mul-one, add-one, lt-of-not-le, pow-le-pow-left, arith, needs}
 use Rattle.theory.specs.Units.{zeros}
-use Rattle.theory.proofs.Powers.{pow-pos, below-pow}
+use Rattle.theory.proofs.Powers.{pow-pos, pow-mono}
 use Rattle.theory.proofs.Multiples.{Multiple, multiple-mod, multiple-cancel}
 use Rattle.theory.proofs.LeastPlace.{Ends, ends-zeros}
 use Rattle.units.proofs.powers_of_base.trailing_zeros.Statement.{statement}
 use Rattle.units.proofs.powers_of_base.trailing_zeros.Tie as tie
 
 abbrev Inv-loop : tie.InvT-loop
-Inv-loop base m rest₀ count₀ rest count = (m ≡ rest * base ^ count) × (1 ≤ rest)
+Inv-loop base m factor rest₀ count₀ rest count = (m ≡ rest * base ^ count) × (1 ≤ rest)
 
 abbrev μ-loop : tie.MeasureT-loop
-μ-loop base m rest₀ count₀ rest count = rest
+μ-loop base m factor rest₀ count₀ rest count = rest
 
--- the count stays below m
-room : {β m rest count : ℕ} → 2 ≤ β → m ≡ rest * β ^ count → 1 ≤ rest → count < m
-room {β} {m} {rest} {count} h e l = omega (arith, below-pow h count, mul-le-mul-right (β ^ count) l)
+-- the count stays below the bits of a word
+room : {β m rest count : ℕ} → 2 ≤ β → m ≡ rest * β ^ count → 1 ≤ rest → m < 2 ^ 64 → count < 64
+room {β} {m} {rest} {count} h e l f =
+    let two : 2 ≤ 2 = omega arith in
+    lt-of-not-le (λ (k : 64 ≤ count). omega (arith, pow-mono two k, pow-le-pow-left h count, mul-le-mul-right (β ^ count) l))
 
 -- a digit 0 is taken off
 shorter : (β rest : ℕ) → 2 ≤ β → 1 ≤ rest → rest % β ≡ 0 → (rest / β < rest) × (1 ≤ rest / β) × (rest ≡ rest / β * β)
@@ -32,7 +34,7 @@ add-count : tie.Need-add-count Inv-loop μ-loop
 add-count c =
     let s = c .before .before in
     let i = c .before .loop .inv in
-    omega (arith, room {rest = c .before .loop .rest} {count = c .before .loop .count} (s .pre .0) (i .0) (i .1), s .fits .m)
+    omega (arith, room {rest = c .before .loop .rest} {count = c .before .loop .count} (s .pre .0) (i .0) (i .1) (search needs))
 
 -- a turn of the loop
 turn : (c : tie.In-loop Inv-loop μ-loop) → let β = c .before .before .args .base in let rest = c .before .loop .rest in (rest / β < rest) × (1 ≤ rest / β) × (rest ≡ rest / β * β)

@@ -7,7 +7,7 @@ use Rattle.format.specs.Given.{Given}
 use Rattle.number.specs.declared.Number.{Number}
 use Rattle.arithmetic.specs.Marked.{withoutMark, fractionAnswer}
 use Rattle.fast_two_sum.specs.Calls.{fastTwoSum}
-use Rattle.vectors.specs.Calls.{calls, wholeOrder, patternNumber, inexactWhole, firstOfSteps, answerOf}
+use Rattle.vectors.specs.Calls.{calls, wholeOrder, patternNumber, inexactWhole, firstOfSteps, lowWord, answerOf}
 use Rattle.vectors.proofs.calls.answer_of.Statement.{statement}
 use Rattle.vectors.proofs.calls.answer_of.Tie as tie
 
@@ -34,17 +34,17 @@ is-fraction : tie.Need-returns-5
 unfolding answerOf
 is-fraction c =
     let k = c .before .before .before in
-    let s = k .before in
+    let s = k .before .before .before in
     known (k .match .keys5) _ _ _ _
     (c .unmarked5 .ensures
-    ∙ ap withoutMark (c .before .fraction .ensures ∙ ap (λ (z : ℤ). fractionAnswer (s .args .format) (s .args .d) z (s .args .b .significand)) (back (numerator-fits s))))
+    ∙ ap withoutMark (c .before .fraction .ensures ∙ ap (λ (z : ℤ). fractionAnswer (s .args .format) (s .args .d) z (lowWord (s .args .b .significand))) (back (numerator-fits s))))
 
 pub answer-of-spec : {M : Type 1} → statement M
 unfolding answerOf
 answer-of-spec =
     tie.close
     (tie.spec
-    (λ c κs. search needs) (λ c κs. search needs) (λ c κs. search needs) (λ c κs. search needs) (λ c κs. search needs)
+    (λ c. search needs) (λ c. search needs) (λ c κs. search needs) (λ c κs. search needs) (λ c κs. search needs) (λ c κs. search needs) (λ c κs. search needs)
     (λ c κs. search needs) (λ c κs. search needs) (λ c κs. search needs) (λ c κs. search needs) (λ c κs. search needs)
     (λ c κs. search needs) (λ c κs. search needs) (λ c κs. search needs) (λ c κs. search needs) (λ c κs. search needs)
     (λ c κs. search needs) (λ c κs. search needs) (λ c κs. search needs) (λ c κs. search needs) (λ c κs. search needs)

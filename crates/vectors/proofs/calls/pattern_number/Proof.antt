@@ -11,6 +11,6 @@ pub pattern-number-spec : {M : Type 1} → statement M
 pattern-number-spec =
     tie.close
     (tie.spec
-    (λ c. search needs) (λ c κs. search needs) (λ c. search needs)
+    (λ c. search needs) (λ c. search needs) (λ c κs. search needs) (λ c. search needs)
     (λ c. ap gives (c .whole .ensures) ∙ ap (λ (p : PatternAnswer). patternNumber (patternGiven p)) (sym (c .before .before .pattern .given .1)))
     (λ c. ap (λ (p : PatternAnswer). patternNumber (patternGiven p)) (sym (c .before .pattern2 .given .1))))

@@ -11,4 +11,4 @@ number-at-spec =
     tie.close
     (tie.spec
     (λ c κs. search needs) (λ c. search needs) (λ c κs. search needs) (λ c. search needs) (λ c κs. search needs)
-    (λ c. rw (back (record { sfits = c .integer .ok }), ← c .before .before .word .ensures, ← c .before .word2 .ensures, ← c .integer .ensures)))
+    (λ c. rw (back (record { sfits = c .integer .ok }), ← c .before .before .word .ensures, ← c .before .column-at .ensures, ← c .integer .ensures)))

@@ -1,11 +1,13 @@
 -- `wide::long_division::take_digits` meets its contract. The invariant: the digits down to `place` have been taken, and the
 -- quotient has at most the digits of the format. What the loop yields at each of its three ends is the invariant with the test that
 -- ended it.
-use Rattle.theory.proofs.Prelude.{ℕ, _≤_, _<_, _^_, _*_, mul-le-mul-right, mul-le-mul-left, arith, needs}
+use Rattle.theory.proofs.Prelude.{ℕ, _≤_, _<_, _+_, _^_, _*_, _/_, _%_, _∙_, ap, _≡_, mul-lt-mul-of-pos-right, arith, needs}
+use Rattle.two_words.specs.Amount.{amount}
 use Rattle.theory.proofs.Powers.{pow-pos}
+use Rattle.rounding.proofs.Scales.{high-below}
 use Rattle.wide.specs.declared.long_division.Division.{Division}
 use Rattle.wide.specs.Division.{Taken, Ended, Divided, all-digits, lowest-place, no-rest}
-use Rattle.wide.proofs.Digits.{taken-exact, taken-none, taken-next, Turn, turn-is, few-digits}
+use Rattle.wide.proofs.Digits.{taken-exact, taken-none, taken-group, Turn, turn-is, few-digits}
 use Rattle.wide.proofs.long_division.take_digits.Statement.{statement}
 use Rattle.wide.proofs.long_division.take_digits.Tie as tie
 
@@ -43,21 +45,36 @@ turn : (c : tie.After-next-group Inv-loop μ-loop)
     → Turn (unit c) (start (head c) .args .scale .bound) (start (head c) .args .divisor) (head c .loop .quotient) (head c .loop .remainder)
 turn c = turn-is (some c) (c .next-group .ensures .room) (rest (head c))
 
--- what remains, lowered, fits a word
-lowered : (c : tie.After-next-group Inv-loop μ-loop) → head c .loop .remainder * unit c < 2 ^ 64
-lowered c =
-    let s = start (head c) in
-    let g = c .next-group .ensures in
-    let below : head c .loop .remainder * unit c ≤ 2 ^ 32 * s .args .scale .base * unit c =
-    mul-le-mul-right (unit c) (omega (arith, rest (head c), s .pre .3)) in
-    omega (arith, below, mul-le-mul-left (2 ^ 32) (g .word))
+-- what remains, lowered, is divided
+divide-requires : tie.Need-divide-requires Inv-loop μ-loop
+divide-requires c κs =
+    let a = c .before in
+    let s = start (head a) in
+    let h = s .pre .0 in
+    let most : unit a ≤ 2 ^ 63 = omega (arith, a .next-group .ensures .room, h .bound-most) in
+    let less : amount (c .product .result) < unit a * s .args .divisor = omega (arith, c .product .ensures, mul-lt-mul-of-pos-right (rest (head a)) (some a)) in
+    (omega (arith, s .pre .2), high-below (c .product .result) most less)
+
+abbrev lowered : tie.After-divide Inv-loop μ-loop → ℕ
+lowered c = let a = c .before .before in head a .loop .remainder * unit a
+
+digits-are : (c : tie.After-divide Inv-loop μ-loop) → c .divide .result .quotient ≡ lowered c / start (head (c .before .before)) .args .divisor
+digits-are c = c .divide .ensures .0 ∙ ap (λ (n : ℕ). n / start (head (c .before .before)) .args .divisor) (c .before .product .ensures)
+
+left-over : (c : tie.After-divide Inv-loop μ-loop) → c .divide .result .remainder ≡ lowered c % start (head (c .before .before)) .args .divisor
+left-over c = c .divide .ensures .1 ∙ ap (λ (n : ℕ). n % start (head (c .before .before)) .args .divisor) (c .before .product .ensures)
+
+next : (c : tie.After-divide Inv-loop μ-loop)
+    → let a = c .before .before in head a .loop .quotient * unit a + c .divide .result .quotient < start (head a) .args .scale .bound
+next c = omega (arith, digits-are c, turn (c .before .before) .next)
 
 loop-again : tie.Need-loop-again Inv-loop μ-loop
 loop-again c =
-    let a = c .before .before .before in
+    let d = c .before .before .before in
+    let a = d .before .before in
     let s = start (head a) in
     let g = a .next-group .ensures in
-    (rw (g .power) (taken-next (s .args .scale .base) (s .pre .2) (a .next-group .result .count) (head a .loop .inv .0) (g .within)), turn a .next)
+    (taken-group (s .args .scale .base) (s .pre .2) (a .next-group .result .count) (g .power) (digits-are d) (left-over d) (head a .loop .inv .0) (g .within), next d)
 
 abbrev state : tie.At-loop Inv-loop μ-loop → Division
 state c = record { quotient = c .loop .quotient; remainder = c .loop .remainder; place = c .loop .place }
@@ -80,11 +97,10 @@ take-digits-spec =
     tie.close
     (tie.spec
     Inv-loop μ-loop loop-holds (λ c κs. let h = c .before .before .before .before in (start h .pre .0, omega arith, omega arith))
-    (λ c. search needs) (λ c. omega (arith, lowered (c .before))) (λ c. omega (arith, start (head (c .before)) .pre .2))
-    (λ c. omega (arith, turn (c .before) .next, start (head (c .before)) .pre .0 .bound-most))
-    (λ c. let a = c .before .before in omega (arith, turn a .next, start (head a) .pre .0 .bound-most))
-    (λ c. let a = c .before .before in omega (arith, turn a .next, start (head a) .pre .0 .bound-most))
-    (λ c. omega (arith, start (head (c .before .before)) .pre .2)) (λ c. c .before .before .before .next-group .ensures .within)
-    (λ c. let g = c .before .before .before .next-group .ensures in omega (arith, g .some, g .within)) loop-again
+    (λ c κs. search needs) divide-requires
+    (λ c. let d = c .before in omega (arith, next d, start (head (d .before .before)) .pre .0 .bound-most))
+    (λ c. let d = c .before .before in omega (arith, next d, start (head (d .before .before)) .pre .0 .bound-most))
+    (λ c. c .before .before .before .before .before .next-group .ensures .within)
+    (λ c. let g = c .before .before .before .before .before .next-group .ensures in omega (arith, g .some, g .within)) loop-again
     (λ c. yields (c .before .before) (all-digits (c .if1 .taken))) (λ c. yields (c .before .before .before) (lowest-place (c .if2 .taken)))
     (λ c. yields (c .before .before .before .before) (no-rest (c .if3 .taken))))

@@ -15,7 +15,7 @@ returns c =
 returns-2 : tie.Need-returns-2
 unfolding belowPower
 returns-2 c =
-    let s = c .before .before .before .before .before in
+    let s = c .before .before .before .before in
     let h = s .pre .0 in
     let bound : s .args .scale .bound ≡ s .args .scale .base ^ (s .args .gap - 1) = h .bound-power ∙ power-at (s .args .scale .base) (omega arith) in
     c .locate .ensures ∙ ap (λ (t : ℕ). located (t - s .args .m) t) bound
@@ -23,4 +23,5 @@ returns-2 c =
 pub below-power-spec : {M : Type 1} → statement M
 below-power-spec =
     tie.close
-    (tie.spec (λ c. search needs) returns (λ c. search needs) (λ c. search needs) (λ c. search needs) (λ c κs. search needs) returns-2)
+    (tie.spec (λ c. search needs) returns (λ c. search needs)
+    (λ c κs. let s = c .before .before .before in (omega (arith, s .pre .0 .bound-most, s .pre .1, s .pre .2), omega (arith, s .pre .2))) returns-2)

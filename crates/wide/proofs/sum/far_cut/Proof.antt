@@ -70,4 +70,4 @@ far-cut-spec =
     tie.close
     (tie.spec
     (λ c. let s = c .before .before in far-none (s .pre .0) (s .args .y) (s .pre .1) (c .if1 .taken)) (λ c. search needs)
-    (λ c. search needs) (λ c κs. search needs) returns-2 (λ c. search needs) sub-t17 returns-3)
+    (λ c. search needs) (λ c κs. let e = digits (c .before .before) in let p = start e .pre in (p .0, some e, omega (arith, p .2 .canonical .small, p .0 .bound-power), p .4)) returns-2 (λ c. search needs) sub-t17 returns-3)

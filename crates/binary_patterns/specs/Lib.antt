@@ -1,0 +1,2 @@
+-- Patterns of the binary formats, over the widths of their fields.
+pub mod Patterns
