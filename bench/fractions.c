@@ -30,7 +30,7 @@ static uint64_t quotient_pass(const void *what) {
     const fractions *f = what;
     uint64_t all = 0;
     for (int i = 0; i < PAIRS; i++)
-        all ^= used(zurkeb_quotient(f->format, ZURKEB_NEAREST_EVEN, f->pairs[i].a, f->pairs[i].b));
+        all ^= used(rounded_quotient(f->format, ZURKEB_NEAREST_EVEN, f->pairs[i].a, f->pairs[i].b));
     return all;
 }
 

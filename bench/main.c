@@ -13,7 +13,7 @@
 #include "receivers.h"
 #include "timing.h"
 
-const our_call our_calls[OPERATIONS] = {zurkeb_sum, zurkeb_product, zurkeb_quotient};
+const our_call our_calls[OPERATIONS] = {zurkeb_sum, zurkeb_product, rounded_quotient};
 static const char *const operation_names[OPERATIONS] = {"sum", "product", "quotient"};
 
 /* A format and its operands. */

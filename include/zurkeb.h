@@ -76,6 +76,13 @@ typedef struct zurkeb_rounded_answer {
     zurkeb_number number;
 } zurkeb_rounded_answer;
 
+typedef struct zurkeb_quotient_answer {
+    uint32_t refusal;
+    uint32_t mark;   /* of enum zurkeb_mark; 0 at a refusal */
+    uint32_t digits; /* quotient digits worked out, at most the format's digits and one; 0 at a refusal */
+    zurkeb_number number;
+} zurkeb_quotient_answer;
+
 typedef struct zurkeb_order_answer {
     uint32_t refusal;
     int32_t order; /* -1 less, 0 equal, 1 greater */
@@ -152,6 +159,7 @@ ZURKEB_SIZE(zurkeb_format, 16);
 ZURKEB_SIZE(zurkeb_number, 16);
 ZURKEB_SIZE(zurkeb_number_answer, 24);
 ZURKEB_SIZE(zurkeb_rounded_answer, 24);
+ZURKEB_SIZE(zurkeb_quotient_answer, 32);
 ZURKEB_SIZE(zurkeb_order_answer, 8);
 ZURKEB_SIZE(zurkeb_published_answer, 20);
 ZURKEB_SIZE(zurkeb_triple_answer, 56);
@@ -192,7 +200,10 @@ zurkeb_number_answer zurkeb_successor(zurkeb_format format, zurkeb_number x);
 zurkeb_rounded_answer zurkeb_sum(zurkeb_format format, uint32_t direction, zurkeb_number a, zurkeb_number b);
 zurkeb_rounded_answer zurkeb_difference(zurkeb_format format, uint32_t direction, zurkeb_number a, zurkeb_number b);
 zurkeb_rounded_answer zurkeb_product(zurkeb_format format, uint32_t direction, zurkeb_number a, zurkeb_number b);
-zurkeb_rounded_answer zurkeb_quotient(zurkeb_format format, uint32_t direction, zurkeb_number a, zurkeb_number b);
+/* Also how many quotient digits were worked out. Both significands are brought to all digits of the format and divided; the first digit is
+ * the whole-number part, perhaps 0. Digits are taken until the format's digits stand (a 0 before the first other digit is none of them),
+ * or the digit at place emin is taken, or nothing remains; none where a is zero or the first digit's place lies below emin. */
+zurkeb_quotient_answer zurkeb_quotient(zurkeb_format format, uint32_t direction, zurkeb_number a, zurkeb_number b);
 /* numerator / denominator, two whole numbers, rounded once in the direction, with the sign of the numerator. Refuses 1, 2, 4, 5. */
 zurkeb_rounded_answer zurkeb_fraction(zurkeb_format format, uint32_t direction, int32_t numerator, uint32_t denominator);
 

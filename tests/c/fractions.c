@@ -3,6 +3,7 @@
 #include <stdbool.h>
 
 #include "compare.h"
+#include "quotient.h"
 #include "zurkeb.h"
 
 typedef unsigned __int128 wide;
@@ -103,7 +104,7 @@ static void as_quotient(zurkeb_format f, int32_t n, uint32_t d) {
     if (!whole(f, n, &a) || !whole(f, (int32_t)d, &b))
         return;
     for (uint32_t direction = 0; direction < 5; direction++)
-        same_answer("quotient", zurkeb_quotient(f, direction, a, b), zurkeb_fraction(f, direction, n, d));
+        same_answer("quotient", rounded_quotient(f, direction, a, b), zurkeb_fraction(f, direction, n, d));
 }
 
 static void random_fraction(zurkeb_format f) {

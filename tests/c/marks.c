@@ -7,13 +7,14 @@
 
 #include "compare.h"
 #include "exact.h"
+#include "quotient.h"
 #include "zurkeb.h"
 
 typedef __int128 wide;
 typedef zurkeb_rounded_answer (*operation)(zurkeb_format, uint32_t, zurkeb_number, zurkeb_number);
 
 enum { OPERATIONS = 4 };
-static const operation operations[OPERATIONS] = {zurkeb_sum, zurkeb_difference, zurkeb_product, zurkeb_quotient};
+static const operation operations[OPERATIONS] = {zurkeb_sum, zurkeb_difference, zurkeb_product, rounded_quotient};
 static const char *const names[OPERATIONS] = {"sum", "difference", "product", "quotient"};
 
 /* ---- the machine */
@@ -90,7 +91,7 @@ static void exact_results(zurkeb_format f) {
         multiplied("difference", f, zurkeb_difference(f, d, a, b), v - w, 1);
         multiplied("product", f, zurkeb_product(f, d, a, b), v * w, one);
         if (w != 0)
-            multiplied("quotient", f, zurkeb_quotient(f, d, a, b), w < 0 ? -v * one : v * one, w < 0 ? -w : w);
+            multiplied("quotient", f, rounded_quotient(f, d, a, b), w < 0 ? -v * one : v * one, w < 0 ? -w : w);
         multiplied("fraction", f, zurkeb_fraction(f, d, n, m), n * one, m);
     }
 }

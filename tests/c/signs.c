@@ -41,6 +41,15 @@ static outcome compare(zurkeb_format f, uint32_t direction, const zurkeb_number 
     return (outcome){r.refusal, {(uint32_t)r.order}};
 }
 
+static outcome quotient(zurkeb_format f, uint32_t direction, const zurkeb_number *x) {
+    zurkeb_quotient_answer r = zurkeb_quotient(f, direction, x[0], x[1]);
+    outcome o = {.refusal = r.refusal};
+    put(o.fields, r.number);
+    o.fields[4] = r.mark;
+    o.fields[5] = r.digits;
+    return o;
+}
+
 static outcome fast_two_sum(zurkeb_format f, uint32_t direction, const zurkeb_number *x) {
     zurkeb_triple_answer r = zurkeb_fast_two_sum(f, direction, direction, direction, x[0], x[1]);
     outcome o = {.refusal = r.refusal};
@@ -81,7 +90,7 @@ static const call calls[] = {
     {"sum", 2, true, .of_two = zurkeb_sum},
     {"difference", 2, true, .of_two = zurkeb_difference},
     {"product", 2, true, .of_two = zurkeb_product},
-    {"quotient", 2, true, .of_two = zurkeb_quotient},
+    {"quotient", 2, true, .other = quotient},
     {"check_number", 1, false, .other = check_number},
     {"compare", 2, false, .other = compare},
     {"fast_two_sum", 2, true, .other = fast_two_sum},

@@ -8,13 +8,14 @@
 #include <string.h>
 
 #include "compare.h"
+#include "quotient.h"
 #include "zurkeb.h"
 
 typedef unsigned __int128 wide;
 typedef zurkeb_rounded_answer (*operation)(zurkeb_format, uint32_t, zurkeb_number, zurkeb_number);
 
 enum { OPERATIONS = 4 };
-static const operation operations[OPERATIONS] = {zurkeb_sum, zurkeb_difference, zurkeb_product, zurkeb_quotient};
+static const operation operations[OPERATIONS] = {zurkeb_sum, zurkeb_difference, zurkeb_product, rounded_quotient};
 static const char *const names[OPERATIONS] = {"sum", "difference", "product", "quotient"};
 
 static uint64_t random64(void) {

@@ -7,18 +7,19 @@ significand, exponent. Below zero is two's complement. Columns that a call does 
 - A pattern stands as a significand.
 - A fraction's numerator stands as the first exponent, its denominator as the second significand.
 - A comparison answers -1, 0 or 1 as a sign and a significand.
+- A number of quotient digits stands as a significand.
 - The three-step sum, each step in the row's direction, answers x.
 - A line that ends with the publisher's inexact flag makes a row that asks for the mark alone and answers 0 or 1; patterns stand there as
   numbers of binary32."""
 import os
 
-FILES = ["binary32_nearest.txt", "binary32_directions.txt", "decimal.txt", "minus_zero.txt", "decimal32.txt", "wide.txt", "fractions.txt", "scope.txt"]
+FILES = ["binary32_nearest.txt", "binary32_directions.txt", "decimal.txt", "minus_zero.txt", "decimal32.txt", "wide.txt", "fractions.txt", "scope.txt", "digits.txt"]
 FLAGGED = ["inexact/binary32_directions.txt", "inexact/decimal.txt"]
 # the operations in the order of their numbers, which is that of `calls` in crates/vectors/specs/Calls.antt
 NUMBERS = ["sum", "diff", "prod", "quot", "frac", "cmp", "abs", "neg", "pred", "succ", "ufp"]
 PATTERNS = ["sum", "diff", "prod", "quot"]
 DECIMAL32 = ["dread", "dwrite"]
-OPERATIONS = NUMBERS + ["pattern " + name for name in PATTERNS] + ["inexact " + name for name in PATTERNS] + DECIMAL32 + ["steps"]
+OPERATIONS = NUMBERS + ["pattern " + name for name in PATTERNS] + ["inexact " + name for name in PATTERNS] + DECIMAL32 + ["digits", "steps"]
 BINARY32 = [2, 24, -149, 104]
 NOTHING = [0, 0, 0]
 
@@ -35,7 +36,7 @@ def answer_columns(kind, *words):
         return [0] + values
     if kind == "c":
         return [0, int(values[0] < 0), abs(values[0]), 0]
-    if kind == "p":
+    if kind in ("p", "d"):
         return [0, 0] + values + [0]
     assert kind == "r"
     return values + NOTHING

@@ -1,5 +1,6 @@
 -- The laws that the operations' proofs go by, and the laws that a user expects.
 pub mod Prepared
+pub mod QuotientPlaces
 -- what an answer says of the exact result
 pub mod Outcome
 pub mod Fractions
@@ -13,6 +14,8 @@ pub mod ZeroLaws
 pub mod FractionLaws
 -- what the marks say
 pub mod MarkLaws
+-- how many digits of a quotient are worked out
+pub mod DigitLaws
 pub mod Prelude
 -- the checks of a public call
 pub mod Entries

@@ -10,9 +10,10 @@ use Rattle.theory.specs.Signed.{signed, WideZ}
 use Rattle.theory.proofs.Marks.{mark-multiplied, mark-exact, mark-turned, Unsigned, wide-exact, downward-not-high, upward-not-low, toward-zero-inward, roundZ-turned}
 use Rattle.theory.proofs.Signed.{roundZ-wide}
 use Rattle.format.proofs.GivenLaws.{gives-same, gives-not-refused, gives-not-refused-at}
-use Rattle.arithmetic.specs.Marked.{withoutMark, marked, sumAnswer, differenceAnswer, productAnswer, quotientAnswer, fractionAnswer}
+use Rattle.arithmetic.specs.Marked.{withoutMark, marked, sumAnswer, differenceAnswer, productAnswer, fractionAnswer}
+use Rattle.arithmetic.specs.Quotients.{withDigits, withoutDigits, quotientAnswer}
 use Rattle.arithmetic.specs.Outcomes.{RoundedNumber, MarkedNumber}
-use Rattle.arithmetic.proofs.Prepared.{marked-number, fraction-signed}
+use Rattle.arithmetic.proofs.Prepared.{marked-number, digits-left, fraction-signed}
 use Rattle.arithmetic.proofs.Outcome.{outcome-given}
 use Rattle.arithmetic.proofs.Calls.{summed-rounds, subtracted-rounds, multiplied-rounds, divided-rounds, divided-some}
 use Rattle.arithmetic.proofs.FractionLaws.{Fractioned, not-admitted, no-direction, zero-denominator, rounds, fractioned-is}
@@ -25,6 +26,19 @@ marked-checked f N D directions numbers g = by (admitted f) (all isDirection dir
   where
     by : (a d m : Bool) → unless a (refused 1) (unless d (refused 2) (unless m (refused 3) (marked f N D g)))
         ≡ marked f N D (unless a (refused 1) (unless d (refused 2) (unless m (refused 3) g)))
+    by true true true = refl
+    by true true false = refl
+    by true false m = refl
+    by false d m = refl
+
+-- and so are the digits of a quotient
+pub digits-checked : (f : Format) (n : ℕ) (directions : List ℕ) (numbers : List Number) (g : Given Rounded)
+    → checked f directions numbers (withDigits n g) ≡ withDigits n (checked f directions numbers g)
+unfolding checked unless
+digits-checked f n directions numbers g = by (admitted f) (all isDirection directions) (all (member f) numbers)
+  where
+    by : (a d m : Bool) → unless a (refused 1) (unless d (refused 2) (unless m (refused 3) (withDigits n g)))
+        ≡ withDigits n (unless a (refused 1) (unless d (refused 2) (unless m (refused 3) g)))
     by true true true = refl
     by true true false = refl
     by true false m = refl
@@ -43,10 +57,11 @@ module _ (f : Format) (d : ℕ) (a b : Number) where
   unfolding productAnswer multiplied
   product-marked = marked-checked f _ _ (d ∷ []) (a ∷ b ∷ []) _
 
-  pub quotient-marked : quotientAnswer f d a b
+  -- of the quotient, its digits apart
+  pub quotient-marked : withoutDigits (quotientAnswer f d a b)
       ≡ marked f (signed (xor (a .negative) (b .negative)) (magnitude f a * f .base ^ belowZero (f .emin))) (magnitude f b * f .base ^ aboveZero (f .emin)) (divided f d a b)
   unfolding quotientAnswer divided
-  quotient-marked = marked-checked f _ _ (d ∷ []) (a ∷ b ∷ []) _
+  quotient-marked = ap withoutDigits (digits-checked f _ (d ∷ []) (a ∷ b ∷ []) _) ∙ digits-left _ _ ∙ marked-checked f _ _ (d ∷ []) (a ∷ b ∷ []) _
 
 pub fraction-marked : (f : Format) (d : ℕ) (n : ℤ) (m : ℕ)
     → fractionAnswer f d n m ≡ marked f (n *ℤ pos (f .base ^ belowZero (f .emin))) (m * f .base ^ aboveZero (f .emin)) (fractioned f d n m)
@@ -64,7 +79,7 @@ module _ (f : Format) (d : ℕ) (a b : Number) where
   pub product-unmarked : withoutMark (productAnswer f d a b) ≡ multiplied f d a b
   product-unmarked = ap withoutMark (product-marked f d a b) ∙ marked-number f _ _ _
 
-  pub quotient-unmarked : withoutMark (quotientAnswer f d a b) ≡ divided f d a b
+  pub quotient-unmarked : withoutMark (withoutDigits (quotientAnswer f d a b)) ≡ divided f d a b
   quotient-unmarked = ap withoutMark (quotient-marked f d a b) ∙ marked-number f _ _ _
 
 pub fraction-unmarked : (f : Format) (d : ℕ) (n : ℤ) (m : ℕ) → withoutMark (fractionAnswer f d n m) ≡ fractioned f d n m
@@ -90,7 +105,7 @@ module _ (f : Format) (d : ℕ) (a b : Number) {r : Rounded} where
       → MarkedNumber f (direction d) (value f a *ℤ value f b *ℤ pos (f .base ^ aboveZero (f .emin))) (f .base ^ belowZero (f .emin)) r
   product-given e = marked-given f _ _ (multiplied f d a b) (λ x h. multiplied-rounds f d a b .given h) (sym (product-marked f d a b) ∙ e)
 
-  pub quotient-given : quotientAnswer f d a b ≡ gives r
+  pub quotient-given : withoutDigits (quotientAnswer f d a b) ≡ gives r
       → MarkedNumber f (direction d) (signed (xor (a .negative) (b .negative)) (magnitude f a * f .base ^ belowZero (f .emin))) (magnitude f b * f .base ^ aboveZero (f .emin)) r
   quotient-given e =
       marked-given f _ _ (divided f d a b) (λ x h. divided-rounds f d a b (divided-some f d a b h) .given h) (sym (quotient-marked f d a b) ∙ e)

@@ -22,6 +22,7 @@ use Rattle.wide.proofs.Results.{sum-value}
 use Rattle.wide.proofs.Signs.{signed-times}
 use Rattle.arithmetic.specs.Operands.{wideOf, zeroSigned}
 use Rattle.arithmetic.specs.Operations.{zeroSign}
+use Rattle.arithmetic.specs.Quotients.{withoutDigits, withDigits, quotientDigits, countedQuotient}
 use Rattle.arithmetic.specs.Marked.{withoutMark, withMark, marked, markedSum, markedProduct, markedQuotient, markedFraction}
 
 -- ---- the parts of Emin
@@ -126,6 +127,14 @@ unfolding marked
 marked-number f N D (gives x) = refl
 marked-number f N D (refused n) = refl
 marked-number f N D (refusedAt n i) = refl
+
+pub digits-left : (n : ℕ) (g : Given Rounded) → withoutDigits (withDigits n g) ≡ g
+digits-left n (gives r) = refl
+digits-left n (refused k) = refl
+digits-left n (refusedAt k i) = refl
+
+pub counted-number : (f : Format) (d : Direction) (a b : Number) → withoutMark (withoutDigits (countedQuotient f d a b)) ≡ roundedQuotient f d a b
+counted-number f d a b = ap withoutMark (digits-left (quotientDigits f a b) (markedQuotient f d a b)) ∙ marked-number f _ _ _
 
 -- a mark that is true of the magnitude is that of the number
 mark-delivered : {f : Format} → Admitted f → (negative : Bool) {n : ℕ} → WideN (f .base) (f .digits) n → (N : ℤ) (D : ℕ) {t : Mark} → t ≡ mark (signed negative n) N D

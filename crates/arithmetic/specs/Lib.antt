@@ -2,4 +2,5 @@
 pub mod Operands
 pub mod Operations
 pub mod Marked
+pub mod Quotients
 pub mod Outcomes

@@ -1,4 +1,5 @@
--- The answers of the four operations and the fraction: the rounded number, and its mark against the exact result.
+-- The answers of the operations and the fraction: the rounded number, and its mark against the exact result. That of the quotient has a
+-- count besides (`Quotients`).
 use Prim.Native.Nat.{ℕ, _*_, _^_}
 use mathlib.Core.Bool.{xor}
 use mathlib.Core.List.{[], _∷_}
@@ -64,9 +65,6 @@ differenceAnswer f d a b = checked f (d ∷ []) (a ∷ b ∷ []) (markedDifferen
 
 unfoldable pub productAnswer : Format → (d : ℕ) (a b : Number) → Given Rounded
 productAnswer f d a b = checked f (d ∷ []) (a ∷ b ∷ []) (markedProduct f (direction d) a b)
-
-unfoldable pub quotientAnswer : Format → (d : ℕ) (a b : Number) → Given Rounded
-quotientAnswer f d a b = checked f (d ∷ []) (a ∷ b ∷ []) (markedQuotient f (direction d) a b)
 
 unfoldable pub fractionAnswer : Format → (d : ℕ) (numerator : ℤ) (denominator : ℕ) → Given Rounded
 fractionAnswer f d numerator denominator = checked f (d ∷ []) [] (markedFraction f (direction d) numerator denominator)

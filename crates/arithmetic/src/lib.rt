@@ -1,6 +1,6 @@
 // Sum, difference, product and quotient of numbers of a format, and fractions of whole numbers: the exact result, rounded once in a
-// direction, and its mark. Each module has the operation on a prepared format, with the mark and without, and the call, which takes
-// anything.
+// direction, and its mark; of a quotient also how many of its digits were worked out. Each module has the operation on a prepared
+// format, with the mark and without, and the call, which takes anything.
 pub mod fraction;
 pub mod operands;
 pub mod product;
@@ -20,5 +20,18 @@ pub struct Rounded {
 // The answer of an operation: a refusal has no mark.
 pub enum RoundedAnswer {
     Value(Rounded),
+    Refused(Refusal),
+}
+
+// A rounded quotient, how it stands to the exact one, and how many quotient digits were worked out.
+pub struct CountedQuotient {
+    pub number: Number,
+    pub mark: Mark,
+    pub digits: u32,
+}
+
+// The answer of the quotient: a refusal has no digits.
+pub enum QuotientAnswer {
+    Value(CountedQuotient),
     Refused(Refusal),
 }

@@ -1,4 +1,7 @@
-// The quotient.
+// The quotient, and how many of its digits were worked out.
+use crate::CountedQuotient;
+use crate::QuotientAnswer;
+use crate::Rounded;
 use crate::RoundedAnswer;
 use crate::operands::deliver_wide;
 use crate::operands::unmarked;
@@ -20,42 +23,82 @@ ghost use mathlib.Core.Path.{_≡_};
 ghost use Rattle.number.specs.Answers.{numberGiven};
 ghost use Rattle.number.specs.Checks.{Operands};
 ghost use Rattle.arithmetic.specs.Operations.{roundedQuotient};
-ghost use Rattle.arithmetic.specs.Marked.{roundedGiven, markedQuotient, quotientAnswer};
+ghost use Rattle.arithmetic.specs.Marked.{roundedGiven};
+ghost use Rattle.arithmetic.specs.Quotients.{quotientGiven, withDigits, withoutDigits, countedQuotient, quotientAnswer};
+
+// The same answer, with the number of digits.
+fn with_digits(answer: RoundedAnswer, digits: u32) -> QuotientAnswer
+    ensures { λ r. ⌜ quotientGiven r ≡ withDigits digits (roundedGiven answer) ⌝ }
+{
+    match answer {
+        RoundedAnswer::Value(rounded) => {
+            let number = rounded.number;
+            let mark = rounded.mark;
+            QuotientAnswer::Value(CountedQuotient {
+                number: number,
+                mark: mark,
+                digits: digits,
+            })
+        }
+        RoundedAnswer::Refused(why) => QuotientAnswer::Refused(why),
+    }
+}
+
+// The same answer without it.
+pub fn without_digits(answer: QuotientAnswer) -> RoundedAnswer
+    ensures { λ r. ⌜ roundedGiven r ≡ withoutDigits (quotientGiven answer) ⌝ }
+{
+    match answer {
+        QuotientAnswer::Value(quotient) => {
+            let number = quotient.number;
+            let mark = quotient.mark;
+            RoundedAnswer::Value(Rounded {
+                number: number,
+                mark: mark,
+            })
+        }
+        QuotientAnswer::Refused(why) => RoundedAnswer::Refused(why),
+    }
+}
 
 // a / b, in a format that was prepared. Refuses 4, 5.
-fn marked_quotient(prepared: Prepared, direction: Direction, a: Number, b: Number) -> RoundedAnswer
+fn counted_quotient(
+    prepared: Prepared,
+    direction: Direction,
+    a: Number,
+    b: Number,
+) -> QuotientAnswer
     requires { ⌜ Operands prepared a b ⌝ }
-    ensures { λ r. ⌜ roundedGiven r ≡ markedQuotient (prepared .format) direction a b ⌝ }
+    ensures { λ r. ⌜ quotientGiven r ≡ countedQuotient (prepared .format) direction a b ⌝ }
 {
     if b.significand == 0 {
-        return RoundedAnswer::Refused(Refusal::DivisorZero);
+        return QuotientAnswer::Refused(Refusal::DivisorZero);
     }
     let scale = prepared.scale;
     let x = wide_of(prepared, a);
     let y = wide_of(prepared, b);
     let up = below_zero(prepared.format.emin);
     let down = above_zero(prepared.format.emin);
-    deliver_wide(
-        prepared,
-        wide::quotient::quotient(scale, direction, x, y, up, down),
-    )
+    let counted = wide::quotient::quotient(scale, direction, x, y, up, down);
+    let rounding = counted.rounding;
+    with_digits(deliver_wide(prepared, rounding), counted.digits)
 }
 
-// The same without the mark.
+// The same without the mark and the digits.
 pub fn divide(prepared: Prepared, direction: Direction, a: Number, b: Number) -> NumberAnswer
     requires { ⌜ Operands prepared a b ⌝ }
     ensures { λ r. ⌜ numberGiven r ≡ roundedQuotient (prepared .format) direction a b ⌝ }
 {
-    unmarked(marked_quotient(prepared, direction, a, b))
+    unmarked(without_digits(counted_quotient(prepared, direction, a, b)))
 }
 
 // a / b. Refuses 1, 2, 3, 4, 5.
-pub fn quotient(format: Format, direction: u32, a: Number, b: Number) -> RoundedAnswer
-    ensures { λ r. ⌜ roundedGiven r ≡ quotientAnswer format direction a b ⌝ }
+pub fn quotient(format: Format, direction: u32, a: Number, b: Number) -> QuotientAnswer
+    ensures { λ r. ⌜ quotientGiven r ≡ quotientAnswer format direction a b ⌝ }
 {
     let directed = with_direction(prepare(format), direction);
     match with_number(with_number(directed, b), a) {
-        Preparation::Refused(why) => RoundedAnswer::Refused(why),
-        Preparation::Ready(prepared) => marked_quotient(prepared, direction_of(direction), a, b),
+        Preparation::Refused(why) => QuotientAnswer::Refused(why),
+        Preparation::Ready(prepared) => counted_quotient(prepared, direction_of(direction), a, b),
     }
 }

@@ -12,10 +12,12 @@ use Rattle.number.specs.declared.Number.{Number}
 use Rattle.number.specs.declared.Ordering.{Ordering}
 use Rattle.number.specs.declared.Ordering.the-variants.{Less, Equal, Greater}
 use Rattle.arithmetic.specs.declared.Rounded.{Rounded}
+use Rattle.arithmetic.specs.declared.CountedQuotient.{CountedQuotient}
 use Rattle.fast_two_sum.specs.declared.Steps.{Steps}
 use Rattle.c_api.specs.declared.answers.CNumber.{CNumber}
 use Rattle.c_api.specs.declared.answers.NumberOut.{NumberOut}
 use Rattle.c_api.specs.declared.answers.RoundedOut.{RoundedOut}
+use Rattle.c_api.specs.declared.answers.QuotientOut.{QuotientOut}
 use Rattle.c_api.specs.declared.answers.OrderOut.{OrderOut}
 use Rattle.c_api.specs.declared.answers.PublishedOut.{PublishedOut}
 use Rattle.c_api.specs.declared.answers.TripleOut.{TripleOut}
@@ -73,6 +75,15 @@ roundedOut g =
       refusal = refusalOut g;
       mark = valueOut (λ (x : Rounded). markNumber (x .mark)) 0 g;
       number = valueOut (λ (x : Rounded). numberFor (x .number)) noNumber g;
+    }
+
+abbrev pub quotientOut : Given CountedQuotient → QuotientOut
+quotientOut g =
+    record {
+      refusal = refusalOut g;
+      mark = valueOut (λ (x : CountedQuotient). markNumber (x .mark)) 0 g;
+      digits = valueOut (λ (x : CountedQuotient). x .digits) 0 g;
+      number = valueOut (λ (x : CountedQuotient). numberFor (x .number)) noNumber g;
     }
 
 abbrev pub tripleOut : Given Steps → TripleOut

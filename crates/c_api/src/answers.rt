@@ -1,5 +1,6 @@
 // The engine's answers as C sees them, and its numbers as C hands them over. An answer is a struct whose first field is the refusal's
 // number, 0 for none, and whose other fields are zero at a refusal; a verdict or a pattern is a number.
+use arithmetic::QuotientAnswer;
 use arithmetic::RoundedAnswer;
 use binary32_arithmetic::SliceAnswer;
 use binary64::Pattern64Answer;
@@ -23,6 +24,7 @@ ghost use mathlib.Core.Path.{_≡_};
 ghost use Rattle.format.specs.Given.{verdictGiven, formatGiven};
 ghost use Rattle.number.specs.Answers.{numberGiven, orderGiven, patternGiven};
 ghost use Rattle.arithmetic.specs.Marked.{roundedGiven};
+ghost use Rattle.arithmetic.specs.Quotients.{quotientGiven};
 ghost use Rattle.fast_two_sum.specs.Answers.{stepsGiven};
 ghost use Rattle.fast_two_sum.specs.Answers.{checkGiven};
 ghost use Rattle.binary32_arithmetic.specs.Slices.{slicesGiven};
@@ -30,7 +32,7 @@ ghost use Rattle.binary64.specs.Patterns.{pattern64Given};
 ghost use Rattle.saved_lines.specs.Lines.{lineGiven};
 ghost use Rattle.receivers.specs.Answers.{calmerGiven};
 ghost use Rattle.boundaries.specs.Sums as sums;
-ghost use Rattle.c_api.specs.Answers.{refusalOut, numberIn, numberFor, numberOut, markNumber, roundedOut, orderNumber, orderOut, publishedOut, tripleOut, checkOut, patternOut, pattern64Out, slicesOut, countOut, stretchOut, SmallIndex};
+ghost use Rattle.c_api.specs.Answers.{refusalOut, numberIn, numberFor, numberOut, markNumber, roundedOut, quotientOut, orderNumber, orderOut, publishedOut, tripleOut, checkOut, patternOut, pattern64Out, slicesOut, countOut, stretchOut, SmallIndex};
 
 // A number: the sign is 0 for plus, 1 for minus. The order of the fields leaves no gap, so that a number is two registers.
 #[repr(C)]
@@ -51,6 +53,15 @@ pub struct NumberOut {
 pub struct RoundedOut {
     pub refusal: u32,
     pub mark: u32,
+    pub number: CNumber,
+}
+
+// The same, with the number of quotient digits that were worked out.
+#[repr(C)]
+pub struct QuotientOut {
+    pub refusal: u32,
+    pub mark: u32,
+    pub digits: u32,
     pub number: CNumber,
 }
 
@@ -203,6 +214,37 @@ pub fn rounded_out(answer: RoundedAnswer) -> RoundedOut
             RoundedOut {
                 refusal: refusal_number(why),
                 mark: 0,
+                number: none,
+            }
+        }
+    }
+}
+
+pub fn quotient_out(answer: QuotientAnswer) -> QuotientOut
+    ensures { λ r. ⌜ r ≡ quotientOut (quotientGiven answer) ⌝ }
+{
+    match answer {
+        QuotientAnswer::Value(quotient) => {
+            let kept = quotient.number;
+            let mark = quotient.mark;
+            let number = number_for(kept);
+            QuotientOut {
+                refusal: 0,
+                mark: mark_number(mark),
+                digits: quotient.digits,
+                number: number,
+            }
+        }
+        QuotientAnswer::Refused(why) => {
+            let none = CNumber {
+                significand: 0,
+                exponent: 0,
+                negative: 0,
+            };
+            QuotientOut {
+                refusal: refusal_number(why),
+                mark: 0,
+                digits: 0,
                 number: none,
             }
         }

@@ -3,11 +3,13 @@ use crate::answers::CNumber;
 use crate::answers::NumberOut;
 use crate::answers::OrderOut;
 use crate::answers::PublishedOut;
+use crate::answers::QuotientOut;
 use crate::answers::RoundedOut;
 use crate::answers::number_in;
 use crate::answers::number_out;
 use crate::answers::order_out;
 use crate::answers::published_out;
+use crate::answers::quotient_out;
 use crate::answers::rounded_out;
 use crate::answers::verdict_out;
 use arithmetic::fraction::fraction;
@@ -37,8 +39,9 @@ ghost use Rattle.number.specs.Order.{compared};
 ghost use Rattle.number.specs.Signs.{negated, unsigned};
 ghost use Rattle.units.specs.Places.{firstPlace, lastPlace, leastPlace};
 ghost use Rattle.units.specs.Neighbours.{predecessorOf, successorOf};
-ghost use Rattle.arithmetic.specs.Marked.{sumAnswer, differenceAnswer, productAnswer, quotientAnswer, fractionAnswer};
-ghost use Rattle.c_api.specs.Answers.{refusalOut, numberIn, numberOut, roundedOut, orderOut, publishedOut};
+ghost use Rattle.arithmetic.specs.Marked.{sumAnswer, differenceAnswer, productAnswer, fractionAnswer};
+ghost use Rattle.arithmetic.specs.Quotients.{quotientAnswer};
+ghost use Rattle.c_api.specs.Answers.{refusalOut, numberIn, numberOut, roundedOut, quotientOut, orderOut, publishedOut};
 
 // 0 if the format is admitted, else 1.
 #[no_mangle]
@@ -162,17 +165,17 @@ pub extern "C" fn zurkeb_product(
     rounded_out(product(format, direction, number_in(a), number_in(b)))
 }
 
-// a / b, with its mark. Refuses 1, 2, 3, 4, 5.
+// a / b, with its mark and its digits. Refuses 1, 2, 3, 4, 5.
 #[no_mangle]
 pub extern "C" fn zurkeb_quotient(
     format: Format,
     direction: u32,
     a: CNumber,
     b: CNumber,
-) -> RoundedOut
-    ensures { λ r. ⌜ r ≡ roundedOut (quotientAnswer format direction (numberIn a) (numberIn b)) ⌝ }
+) -> QuotientOut
+    ensures { λ r. ⌜ r ≡ quotientOut (quotientAnswer format direction (numberIn a) (numberIn b)) ⌝ }
 {
-    rounded_out(quotient(format, direction, number_in(a), number_in(b)))
+    quotient_out(quotient(format, direction, number_in(a), number_in(b)))
 }
 
 // numerator / denominator, with its mark. Refuses 1, 2, 4, 5.

@@ -1,8 +1,10 @@
-// Powers of the bases, up to 2^63: a shift in base 2, repeated squaring in the others.
+// Powers of the bases, up to 2^63: a shift in base 2, repeated squaring in the others. How often the base goes into a significand: a count
+// of bits in base 2, repeated division in the others.
 use crate::Significand;
 ghost use mathlib.Core.Path.{_≡_};
 ghost use Prim.Native.Nat.{_≤_, _^_};
 ghost use lib.Dec.{leb};
+ghost use Rattle.theory.specs.Units.{zeros};
 ghost use Rattle.format.specs.Formats.{greatestPower};
 ghost use Rattle.format.specs.Limits.{packedLimits, limit};
 
@@ -69,4 +71,30 @@ pub fn power(base: u32, k: u32) -> Significand
         return 1u64 << k;
     }
     repeated(base, k)
+}
+
+// How many zeros m ends in, by taking them off.
+fn zeros_by_division(base: u32, m: Significand) -> u32
+    requires { ⌜ (2 ≤ base) × (1 ≤ m) ⌝ }
+    ensures { λ r. ⌜ r ≡ zeros base m ⌝ }
+{
+    let factor = base as Significand;
+    let mut rest = m;
+    let mut count: u32 = 0;
+    while rest % factor == 0 {
+        rest = rest / factor;
+        count = count + 1;
+    }
+    count
+}
+
+// How many zeros m ends in.
+pub fn trailing_zeros(base: u32, m: Significand) -> u32
+    requires { ⌜ (2 ≤ base) × (1 ≤ m) ⌝ }
+    ensures { λ r. ⌜ r ≡ zeros base m ⌝ }
+{
+    if base == 2 {
+        return u64::trailing_zeros(m);
+    }
+    zeros_by_division(base, m)
 }

@@ -12,6 +12,7 @@ pub mod Canonical
 pub mod Neighbours
 pub mod Units
 pub mod LeastPlace
+pub mod QuotientDigits
 -- the rounding of a magnitude
 pub mod Round
 pub mod Ties

@@ -43,6 +43,11 @@ unfolding _or_
 or-right true h = refl
 or-right false h = h
 
+pub or-neither : (a b : Bool) → a or b ≡ false → (a ≡ false) × (b ≡ false)
+unfolding _or_
+or-neither true b h = absurd (never h)
+or-neither false b h = (refl, h)
+
 pub not-true : {t : Bool} → not t ≡ true → t ≡ false
 not-true {t = true} h = sym h
 not-true {t = false} h = refl

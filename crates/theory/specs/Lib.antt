@@ -5,6 +5,7 @@ pub mod Place
 pub mod Wide
 pub mod Neighbours
 pub mod Units
+pub mod QuotientDigits
 pub mod Round
 pub mod Signed
 pub mod Marks

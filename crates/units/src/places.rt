@@ -1,10 +1,10 @@
 // The first place, the last place and the place of the least nonzero digit. All three are plus zero at either zero.
 use crate::powers_of_base::leading_power;
 use crate::powers_of_base::power_number;
-use crate::powers_of_base::trailing_zeros;
 use format::Format;
 use format::Preparation;
 use format::Prepared;
+use format::powers::trailing_zeros;
 use number::Number;
 use number::NumberAnswer;
 use number::checks::enter;

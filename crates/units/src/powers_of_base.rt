@@ -1,4 +1,4 @@
-// Powers of the base: as numbers of the format, below a significand, and dividing it.
+// Powers of the base: as numbers of the format, and below a significand.
 use format::Prepared;
 use format::Scale;
 use format::Significand;
@@ -6,8 +6,8 @@ use number::Number;
 use number::delivery::number_at;
 ghost use mathlib.Core.Path.{_≡_};
 ghost use mathlib.Core.Bool.{false};
-ghost use Prim.Native.Nat.{_+_, _≤_, _<_, _^_};
-ghost use Rattle.theory.specs.Units.{ufp, zeros};
+ghost use Prim.Native.Nat.{_+_, _<_, _^_};
+ghost use Rattle.theory.specs.Units.{ufp};
 ghost use Rattle.format.specs.Formats.{Scaled};
 ghost use Rattle.number.specs.Checks.{Usable};
 ghost use Rattle.number.specs.Numbers.{number};
@@ -43,19 +43,4 @@ pub fn leading_power(scale: Scale, m: Significand) -> Significand
         power = power * base;
     }
     power
-}
-
-// How many zeros m ends in.
-pub fn trailing_zeros(base: u32, m: Significand) -> u32
-    requires { ⌜ (2 ≤ base) × (1 ≤ m) ⌝ }
-    ensures { λ r. ⌜ r ≡ zeros base m ⌝ }
-{
-    let factor = base as Significand;
-    let mut rest = m;
-    let mut count: u32 = 0;
-    while rest % factor == 0 {
-        rest = rest / factor;
-        count = count + 1;
-    }
-    count
 }

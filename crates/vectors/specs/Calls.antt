@@ -15,7 +15,9 @@ use Rattle.units.specs.Neighbours.{predecessorOf, successorOf}
 use Rattle.units.specs.Places.{firstPlace}
 use Rattle.theory.specs.Marks.{inexact}
 use Rattle.arithmetic.specs.declared.Rounded.{Rounded}
-use Rattle.arithmetic.specs.Marked.{withoutMark, sumAnswer, differenceAnswer, productAnswer, quotientAnswer, fractionAnswer}
+use Rattle.arithmetic.specs.Marked.{withoutMark, sumAnswer, differenceAnswer, productAnswer, fractionAnswer}
+use Rattle.arithmetic.specs.declared.CountedQuotient.{CountedQuotient}
+use Rattle.arithmetic.specs.Quotients.{withoutDigits, quotientAnswer}
 use Rattle.fast_two_sum.specs.declared.Steps.{Steps}
 use Rattle.fast_two_sum.specs.Calls.{fastTwoSum}
 use Rattle.binary32_arithmetic.specs.declared.Operation.the-variants.{Sum, Difference, Product, Quotient}
@@ -43,6 +45,10 @@ patternNumber g = g then λ n. gives (whole false n)
 abbrev pub inexactWhole : Given Rounded → Given Number
 inexactWhole g = g then λ x. gives (whole false (inexact (x .mark)))
 
+-- the number of quotient digits
+abbrev pub digitsWhole : Given CountedQuotient → Given Number
+digitsWhole g = g then λ q. gives (whole false (q .digits))
+
 -- x of the three steps
 abbrev pub firstOfSteps : Given Steps → Given Number
 firstOfSteps g = g then λ s. gives (s .x)
@@ -57,7 +63,7 @@ calls f d a b =
     withoutMark (sumAnswer f d a b)
     ∷ withoutMark (differenceAnswer f d a b)
     ∷ withoutMark (productAnswer f d a b)
-    ∷ withoutMark (quotientAnswer f d a b)
+    ∷ withoutMark (withoutDigits (quotientAnswer f d a b))
     ∷ withoutMark (fractionAnswer f d (a .exponent) (lowWord (b .significand)))
     ∷ wholeOrder (compared f a b)
     ∷ unsigned f a
@@ -72,11 +78,12 @@ calls f d a b =
     ∷ inexactWhole (sumAnswer f d a b)
     ∷ inexactWhole (differenceAnswer f d a b)
     ∷ inexactWhole (productAnswer f d a b)
-    ∷ inexactWhole (quotientAnswer f d a b)
+    ∷ inexactWhole (withoutDigits (quotientAnswer f d a b))
     ∷ decimal32Read (lowWord (a .significand))
     ∷ patternNumber (decimal32Written a)
+    ∷ digitsWhole (quotientAnswer f d a b)
     ∷ []
 
--- what the operation with this number answers: from 21 on, the three-step sum
+-- what the operation with this number answers: from 22 on, the three-step sum
 unfoldable pub answerOf : (operation : ℕ) → Format → (d : ℕ) (a b : Number) → Given Number
 answerOf operation f d a b = getD (calls f d a b) operation (firstOfSteps (fastTwoSum f d d d a b))

@@ -1,6 +1,9 @@
 // The calls of the rows.
+use arithmetic::QuotientAnswer;
 use arithmetic::RoundedAnswer;
 use arithmetic::operands::unmarked;
+use arithmetic::quotient::quotient;
+use arithmetic::quotient::without_digits;
 use binary32_arithmetic::operations;
 use decimal32::reading::read_decimal32;
 use decimal32::writing::write_decimal32;
@@ -19,8 +22,9 @@ ghost use mathlib.Core.Bool.{true, false};
 ghost use Rattle.number.specs.Answers.{numberGiven, orderGiven, patternGiven};
 ghost use Rattle.theory.specs.Marks.{inexact};
 ghost use Rattle.arithmetic.specs.Marked.{roundedGiven};
+ghost use Rattle.arithmetic.specs.Quotients.{quotientGiven};
 ghost use Rattle.fast_two_sum.specs.Answers.{stepsGiven};
-ghost use Rattle.vectors.specs.Calls.{whole, wholeOrder, patternNumber, inexactWhole, firstOfSteps, answerOf};
+ghost use Rattle.vectors.specs.Calls.{whole, wholeOrder, patternNumber, inexactWhole, digitsWhole, firstOfSteps, answerOf};
 
 // A whole number.
 pub fn whole(negative: bool, n: Significand) -> Number
@@ -81,6 +85,19 @@ fn inexact_number(answer: RoundedAnswer) -> NumberAnswer
     }
 }
 
+// The number of quotient digits, as a whole number.
+fn digits_number(answer: QuotientAnswer) -> NumberAnswer
+    ensures { λ r. ⌜ numberGiven r ≡ digitsWhole (quotientGiven answer) ⌝ }
+{
+    match answer {
+        QuotientAnswer::Value(quotient) => NumberAnswer::Value(whole(
+            false,
+            quotient.digits as Significand,
+        )),
+        QuotientAnswer::Refused(why) => NumberAnswer::Refused(why),
+    }
+}
+
 // x of three steps.
 fn first_step(steps: StepsAnswer) -> NumberAnswer
     ensures { λ r. ⌜ numberGiven r ≡ firstOfSteps (stepsGiven steps) ⌝ }
@@ -104,7 +121,7 @@ pub fn answer_of(operation: u32, format: Format, d: u32, a: Number, b: Number) -
         0 => unmarked(arithmetic::sum::sum(format, d, a, b)),
         1 => unmarked(arithmetic::sum::difference(format, d, a, b)),
         2 => unmarked(arithmetic::product::product(format, d, a, b)),
-        3 => unmarked(arithmetic::quotient::quotient(format, d, a, b)),
+        3 => unmarked(without_digits(quotient(format, d, a, b))),
         4 => unmarked(arithmetic::fraction::fraction(format, d, a.exponent, n)),
         5 => order_number(number::order::compare(format, a, b)),
         6 => number::signs::magnitude(format, a),
@@ -119,9 +136,10 @@ pub fn answer_of(operation: u32, format: Format, d: u32, a: Number, b: Number) -
         15 => inexact_number(arithmetic::sum::sum(format, d, a, b)),
         16 => inexact_number(arithmetic::sum::difference(format, d, a, b)),
         17 => inexact_number(arithmetic::product::product(format, d, a, b)),
-        18 => inexact_number(arithmetic::quotient::quotient(format, d, a, b)),
+        18 => inexact_number(without_digits(quotient(format, d, a, b))),
         19 => read_decimal32(m),
         20 => pattern_number(write_decimal32(a)),
+        21 => digits_number(quotient(format, d, a, b)),
         _ => first_step(fast_two_sum(format, d, d, d, a, b)),
     }
 }

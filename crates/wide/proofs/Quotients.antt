@@ -1,11 +1,14 @@
 -- The quotient's exact value and its cut.
-use Rattle.theory.proofs.Prelude.{ℕ, _≤_, _<_, _+_, _^_, _*_, _-_, suc, zero, _%_, _/_, inl, inr, _⊎_, _∙_, ap, _≡_, sym, refl, ap₂, decLe, mul-le-mul-right, mul-le-mul-left, pow-zero, mul-pos, mul-lt-mul-of-pos-right, lt-of-mul-lt-mul-right, div-add-mod', mod-lt, le-of-mul-le-mul-left, arith}
+use Rattle.theory.proofs.Prelude.{ℕ, _≤_, _<_, _+_, _^_, _*_, _-_, suc, zero, _%_, _/_, ⊎-elim, inl, inr, _⊎_, _≢_, _∙_, ap, _≡_, sym, refl, ap₂, subst, decLe, ℕ-discrete, mul-le-mul-right, mul-le-mul-left, pow-zero, mul-pos, mul-lt-mul-of-pos-right, lt-of-mul-lt-mul-right, div-add-mod', mod-lt, le-of-mul-le-mul-left, le-div-iff-mul-le, le-ltb, eq-eqb, ne-eqb, arith}
 use native.Mathlib.Nat.{mul-div-mul-right, mul-right-comm}
 use lib.Arith.{digits-mod}
-use Rattle.rounding.proofs.Prelude.{Positional, step, pow-add, pow-pos, pow-mono, pow-half, Scale, Scaled, Below, cutOf, dropped, Digits, located, located-scaled, located-below, positional, power-at, count-le, least-bound, power-one}
+use Rattle.rounding.proofs.Prelude.{Positional, step, pow-add, pow-pos, pow-mono, pow-half, Scale, Scaled, Below, cutOf, dropped, Digits, Location, dropped-made, located, located-scaled, located-below, positional, power-at, count-le, least-bound, power-one}
 use Rattle.theory.proofs.Place.{step-pos}
 use Rattle.rounding.proofs.Places.{Placed, cut-is, extend-small}
-use Rattle.wide.specs.Quotient.{Leading, Shifted}
+use Rattle.theory.specs.Units.{zeros}
+use Rattle.theory.specs.QuotientDigits.{digitsTaken, lacking, brought}
+use Rattle.theory.proofs.QuotientDigits.{Leads, Reach, leads-below, lacking-is, quotient-some, zeros-within, taken-is, reach-rest, reach-exact}
+use Rattle.wide.specs.Quotient.{Leading, Shifted, CutShifted, digitsFrom, digitsOf, digitsWorked}
 
 -- a factor that numerator and denominator share changes nothing
 pub cut-common : {β p : ℕ} → Positional β p → (N D t : ℕ) → 1 ≤ D → 1 ≤ t → cutOf β p (N * t) (D * t) ≡ cutOf β p N D
@@ -154,3 +157,78 @@ quotient-exact {s} h {m} {n} {a} {b} {i} {j} k l up down sa sb some =
 
     denominator : b * β ^ (l + down + i) ≡ n * β ^ l * β ^ down * β ^ (i + j)
     denominator = rw (sb .is, pow-add β (l + down) i, pow-add β l down, pow-add β i j) (omega arith)
+
+-- ---- the digits that are worked out
+module _ {s : Scale} (h : Scaled s) where
+  pub leading-leads : {a : ℕ} → Leading s a → Leads (s .base) (s .digits) a
+  leading-leads l = record { least = omega (arith, h .least-power, l .least); most = omega (arith, h .bound-power, l .most) }
+
+  -- the shift is what the significand lacks
+  pub shifted-lacking : {m a shift : ℕ} → 1 ≤ m → Shifted s m a shift → (shift ≡ lacking (s .base) (s .digits) m) × (a ≡ brought (s .base) (s .digits) m)
+  unfolding brought
+  shifted-lacking {m} {a} {shift} some t =
+      let e : shift ≡ lacking (s .base) (s .digits) m =
+      lacking-is (positional h) some shift (t .shift-most) (subst (Leads (s .base) (s .digits)) (t .is) (leading-leads (t .leading))) in
+      (e, t .is ∙ ap (λ (i : ℕ). m * s .base ^ i) e)
+
+  module _ {a b : ℕ} (la : Leading s a) (lb : Leading s b) where
+    below-base : a < s .base * b
+    below-base = leads-below (positional h) (leading-leads la) (leading-leads lb)
+
+    -- where nothing remains, there is a quotient, and its zeros are not more than the digits behind the first
+    pub quotient-ends : (after : ℕ) {n q r : ℕ} → n ≡ a * s .base ^ after → q ≡ n / b → r ≡ n % b → r ≡ 0 → (1 ≤ q) × (zeros (s .base) q ≤ after)
+    quotient-ends after {n} e f g z =
+        let none : a * s .base ^ after % b ≡ 0 = ap (λ (x : ℕ). x % b) (sym e) ∙ sym g ∙ z in
+        rw (f, e) (quotient-some (positional h) (leading-pos h lb) a after (leading-pos h la) none, zeros-within (positional h) (leading-pos h lb) after below-base (leading-pos h la) none)
+
+    -- the digits that the code has are those of the definition
+    pub digits-are : (high low after : ℕ) → low ≤ high → Reach (s .base) (s .digits) a b (high - low) after
+        → digitsWorked (s .base) (a * s .base ^ after / b) (a * s .base ^ after % b) after ≡ digitsFrom (s .base) (s .digits) a b high low
+    digits-are high low after l reach = rw (le-ltb high low l) (by (ℕ-discrete (a * s .base ^ after % b) 0))
+      where
+        q : ℕ
+        q = a * s .base ^ after / b
+
+        r : ℕ
+        r = a * s .base ^ after % b
+
+        by : Dec (r ≡ 0) → digitsWorked (s .base) q r after ≡ digitsTaken (s .base) (s .digits) b a 0 (high - low)
+        by (yes z) =
+            let zs = zeros-within (positional h) (leading-pos h lb) after below-base (leading-pos h la) z in
+            rw (eq-eqb r 0 z) (omega (arith, taken-is (positional h) (leading-pos h lb) below-base (high - low) (reach-exact (positional h) (leading-pos h lb) below-base (high - low) reach (leading-pos h la) z)))
+        by (no n) = rw (ne-eqb r 0 n) (omega (arith, taken-is (positional h) (leading-pos h lb) below-base (high - low) (reach-rest (positional h) (leading-pos h lb) below-base (high - low) reach n)))
+
+    -- all the digits that the format keeps, or all down to the lowest place
+    pub kept-reach : {i after place : ℕ} → Kept h a b i → after ≤ i → (after ≡ place) ⊎ (after ≡ i) → after ≤ place
+        → Reach (s .base) (s .digits) a b place after
+    kept-reach {i} k m e w =
+        record {
+          within = w;
+          below = omega (arith, k .below, ap (λ (x : ℕ). b * x) (h .bound-power), mul-le-mul-left a (pow-mono (h .base-least) m));
+          stop = ⊎-elim inl (λ g. inr (rw g stand)) e;
+        }
+      where
+        stand : s .base ^ (s .digits - 1) ≤ a * s .base ^ i / b
+        stand =
+            le-div-iff-mul-le (leading-pos h lb) .1
+            (le-of-mul-le-mul-left {k = s .base} (omega (arith, k .above, ap (λ (x : ℕ). b * x) (least-bound h), ap (λ (x : ℕ). s .base * (b * x)) (h .least-power))) (omega (arith, h .base-least)))
+
+-- as the code has them from one division: the zeros at the end, where nothing remains, or all
+pub worked-exact : (β q after : ℕ) {r z : ℕ} → r ≡ 0 → z ≡ zeros β q → after + 1 - z ≡ digitsWorked β q r after
+worked-exact β q after {r = r} e f = rw (eq-eqb r 0 e, f)
+
+pub worked-rest : (β q after : ℕ) {r : ℕ} → r ≢ 0 → after + 1 ≡ digitsWorked β q r after
+worked-rest β q after {r = r} n = rw (ne-eqb r 0 n) (omega arith)
+
+pub cut-shifted : {β a b n q r place digits : ℕ} {location : Location} (after : ℕ) → n ≡ a * β ^ after → q ≡ n / b → location ≡ located r b → r ≡ n % b
+    → digits ≡ digitsWorked β q r after → CutShifted β a b after place (record { steps = q; place = place; location = location }) digits
+cut-shifted {β} {a} {b} {n} {q} {r} after e f k g d =
+    record { is = dropped-made (a * β ^ after) b (rw e at f) (k ∙ ap (λ (x : ℕ). located x b) (rw e at g)); count = rw (← e, ← f, ← g) d }
+
+-- both significands as they were brought to all their digits
+pub digits-of : {s : Scale} → Scaled s → {m n a b i j : ℕ} (up down : ℕ) → 1 ≤ m → 1 ≤ n → Shifted s m a i → Shifted s n b j
+    → digitsFrom (s .base) (s .digits) a b (up + j) (down + i) ≡ digitsOf (s .base) (s .digits) m n up down
+digits-of {s} h {m} up down some some′ sa sb =
+    let la = shifted-lacking h some sa in
+    let lb = shifted-lacking h some′ sb in
+    rw (ne-eqb m 0 (λ e. omega arith), la .0, la .1, lb .0, lb .1)

@@ -1,6 +1,7 @@
-// The quotient: both significands brought to all their digits, and one division.
+// The quotient: both significands brought to all their digits, and one division, which also tells how many digits were worked out.
 use format::Scale;
 use format::Significand;
+use format::powers::trailing_zeros;
 use rounding::Cut;
 use rounding::Rounding;
 use rounding::Wide;
@@ -19,10 +20,22 @@ ghost use mathlib.Core.Path.{_≡_};
 ghost use mathlib.Core.Bool.{xor};
 ghost use Prim.Native.Nat.{_+_, _*_, _<_, _≤_, _^_};
 ghost use Rattle.format.specs.Formats.{Scaled};
-ghost use Rattle.rounding.specs.Cut.{cutOf, dropped, Rounds};
+ghost use Rattle.rounding.specs.Cut.{cutOf, Rounds};
 ghost use Rattle.rounding.specs.Location.{located};
 ghost use Rattle.wide.specs.Operand.{Bounded, sizeOf};
-ghost use Rattle.wide.specs.Quotient.{Leading, Shifted};
+ghost use Rattle.wide.specs.Quotient.{Leading, Shifted, CutShifted, digitsFrom, digitsOf};
+
+// The cut of a quotient, and how many of its digits were worked out.
+pub struct CountedCut {
+    pub cut: Cut,
+    pub digits: u32,
+}
+
+// A rounded quotient, and how many of its digits were worked out.
+pub struct CountedRounding {
+    pub rounding: Rounding,
+    pub digits: u32,
+}
 
 // A significand with all its digits, and how many were added.
 pub struct Normal {
@@ -42,24 +55,33 @@ fn normalise(scale: Scale, m: Significand) -> Normal
     }
 }
 
-// a * unit divided by b.
+// a * unit divided by b, where the unit brings `after` digits behind the first before the point. Where nothing remains, the zeros that
+// the quotient ends in were not worked out.
 fn divide_shifted(
     scale: Scale,
     a: Significand,
     b: Significand,
     unit: Significand,
+    after: u32,
     place: u32,
-) -> Cut
-    requires { ⌜ Scaled scale × Leading scale b × (a * unit < b * scale .bound) ⌝ }
-    ensures { λ r. ⌜ r ≡ dropped (a * unit) b place ⌝ }
+) -> CountedCut
+    requires { ⌜ Scaled scale × Leading scale a × Leading scale b × (a * unit < b * scale .bound) × (unit ≡ scale .base ^ after) × (after < 64) ⌝ }
+    ensures { λ r. ⌜ CutShifted (scale .base) a b after place (r .cut) (r .digits) ⌝ }
 {
     let division = divide(product(a, unit), b);
     let steps = division.quotient;
     let location = locate(division.remainder, b);
-    Cut {
-        steps: steps,
-        place: place,
-        location: location,
+    let mut digits = after + 1;
+    if division.remainder == 0 {
+        digits = after + 1 - trailing_zeros(scale.base, steps);
+    }
+    CountedCut {
+        cut: Cut {
+            steps: steps,
+            place: place,
+            location: location,
+        },
+        digits: digits,
     }
 }
 
@@ -86,32 +108,39 @@ fn locate_under(scale: Scale, a: Significand, b: Significand, e: u32) -> Locatio
     }
 }
 
-// The cut of a * base ^ high / (b * base ^ low), where a and b have all their digits.
-fn quotient_cut(scale: Scale, a: Significand, b: Significand, high: u32, low: u32) -> Cut
+// The cut of a * base ^ high / (b * base ^ low), where a and b have all their digits. The first digit of a / b stands `high` less `low`
+// places above the lowest.
+fn quotient_cut(scale: Scale, a: Significand, b: Significand, high: u32, low: u32) -> CountedCut
     requires { ⌜ Scaled scale × Leading scale a × Leading scale b × (high < 2 ^ 30) × (low < 2 ^ 30) ⌝ }
-    ensures { λ r. ⌜ r ≡ cutOf (scale .base) (scale .digits) (a * scale .base ^ high) (b * scale .base ^ low) ⌝ }
+    ensures { λ r. ⌜ (r .cut ≡ cutOf (scale .base) (scale .digits) (a * scale .base ^ high) (b * scale .base ^ low))
+        × (r .digits ≡ digitsFrom (scale .base) (scale .digits) a b high low) ⌝ }
 {
-    let mut digits = scale.digits;
+    let mut most = scale.digits;
     let mut unit = scale.bound;
     if b <= a {
-        digits = digits - 1;
+        most = most - 1;
         unit = scale.least;
     }
     if high < low {
         let location = locate_under(scale, a, b, low - high);
-        return Cut {
-            steps: 0,
-            place: 0,
-            location: location,
+        return CountedCut {
+            cut: Cut {
+                steps: 0,
+                place: 0,
+                location: location,
+            },
+            digits: 0,
         };
     }
+    let mut after = most;
     let mut place: u32 = 0;
-    if low + digits <= high {
-        place = high - (low + digits);
+    if low + most <= high {
+        place = high - (low + most);
     } else {
-        unit = power(scale, high - low);
+        after = high - low;
+        unit = power(scale, after);
     }
-    divide_shifted(scale, a, b, unit, place)
+    divide_shifted(scale, a, b, unit, after, place)
 }
 
 // x * base ^ up / (y * base ^ down), rounded.
@@ -122,14 +151,16 @@ pub fn quotient(
     y: Wide,
     up: u32,
     down: u32,
-) -> Rounding
+) -> CountedRounding
     requires { ⌜ Scaled scale × Bounded scale x × Bounded scale y × (1 ≤ y .significand) × (up < 2 ^ 28) × (down < 2 ^ 28) ⌝ }
     ensures { λ r. ⌜ Rounds (scale .base) (scale .digits) direction (xor (x .negative) (y .negative))
-        (sizeOf (scale .base) x * scale .base ^ up) (sizeOf (scale .base) y * scale .base ^ down) r ⌝ }
+        (sizeOf (scale .base) x * scale .base ^ up) (sizeOf (scale .base) y * scale .base ^ down) (r .rounding)
+        × (r .digits ≡ digitsOf (scale .base) (scale .digits) (x .significand) (y .significand) (x .place + up) (y .place + down)) ⌝ }
 {
     let negative = x.negative != y.negative;
     if x.significand == 0 {
-        return Rounding {
+        let digits: u32 = 0;
+        let rounding = Rounding {
             wide: Wide {
                 negative: negative,
                 significand: 0,
@@ -137,11 +168,16 @@ pub fn quotient(
             },
             mark: Mark::Exact,
         };
+        return CountedRounding { rounding, digits };
     }
     let a = normalise(scale, x.significand);
     let b = normalise(scale, y.significand);
     let high = x.place + up + b.shift;
     let low = y.place + down + a.shift;
-    let exact = quotient_cut(scale, a.value, b.value, high, low);
-    finish(scale, direction, negative, exact)
+    let counted = quotient_cut(scale, a.value, b.value, high, low);
+    let exact = counted.cut;
+    CountedRounding {
+        rounding: finish(scale, direction, negative, exact),
+        digits: counted.digits,
+    }
 }

@@ -1,7 +1,7 @@
 -- `arithmetic::quotient::quotient` meets its contract.
 use Rattle.theory.proofs.Prelude.{[], _∷_, _∙_, needs}
 use Rattle.number.proofs.CheckLaws.{first-direction, operands}
-use Rattle.arithmetic.specs.Marked.{markedQuotient, quotientAnswer}
+use Rattle.arithmetic.specs.Quotients.{countedQuotient, quotientAnswer}
 use Rattle.arithmetic.proofs.Prelude.{Direction, Format}
 use Rattle.arithmetic.proofs.Entries.{Entered, directed, numbered, call-enters, call-answers, call-ends}
 use Rattle.arithmetic.proofs.quotient.quotient.Statement.{statement}
@@ -25,5 +25,5 @@ quotient-spec =
     (λ c.
     let p = c .before .before .before in
     let s = p .before .before .before .before .before .before .args in
-    c .marked-quotient .ensures
-    ∙ call-answers (checks (p .before .before)) (p .prepared .given .1) (λ (f : Format) (d : Direction). markedQuotient f d (s .a) (s .b)) (c .before .direction-of .ensures)))
+    c .counted-quotient .ensures
+    ∙ call-answers (checks (p .before .before)) (p .prepared .given .1) (λ (f : Format) (d : Direction). countedQuotient f d (s .a) (s .b)) (c .before .direction-of .ensures)))

@@ -6,8 +6,9 @@ use Rattle.format.specs.declared.Format.{Format}
 use Rattle.format.specs.Given.{Given}
 use Rattle.number.specs.declared.Number.{Number}
 use Rattle.arithmetic.specs.Marked.{withoutMark, fractionAnswer}
+use Rattle.arithmetic.specs.Quotients.{withoutDigits}
 use Rattle.fast_two_sum.specs.Calls.{fastTwoSum}
-use Rattle.vectors.specs.Calls.{calls, wholeOrder, patternNumber, inexactWhole, firstOfSteps, lowWord, answerOf}
+use Rattle.vectors.specs.Calls.{calls, wholeOrder, patternNumber, inexactWhole, digitsWhole, firstOfSteps, lowWord, answerOf}
 use Rattle.vectors.proofs.calls.answer_of.Statement.{statement}
 use Rattle.vectors.proofs.calls.answer_of.Tie as tie
 
@@ -23,7 +24,7 @@ none-below : (n k : ℕ) → NoneBelow n k → k ≤ n
 none-below n zero r = omega arith
 none-below n (suc k) r = let l = none-below n k (r .0) in let d = r .1 in omega arith
 
-past : (operation : ℕ) → 21 ≤ operation → (f : Format) (d : ℕ) (a b : Number) → firstOfSteps (fastTwoSum f d d d a b) ≡ answerOf operation f d a b
+past : (operation : ℕ) → 22 ≤ operation → (f : Format) (d : ℕ) (a b : Number) → firstOfSteps (fastTwoSum f d d d a b) ≡ answerOf operation f d a b
 unfolding answerOf
 past operation h f d a b = sym (List·getD-eq-default (calls f d a b) (firstOfSteps (fastTwoSum f d d d a b)) {n = operation} h)
 
@@ -51,11 +52,14 @@ answer-of-spec =
     (λ c κs. search needs) (λ c κs. search needs) (λ c κs. search needs) (λ c κs. search needs) (λ c κs. search needs)
     (λ c κs. search needs) (λ c κs. search needs) (λ c κs. search needs) (λ c κs. search needs) (λ c κs. search needs)
     (λ c κs. search needs) (λ c κs. search needs) (λ c κs. search needs) (λ c κs. search needs) (λ c κs. search needs)
-    (λ c κs. search needs) (λ c κs. search needs) (λ c κs. search needs)
+    (λ c κs. search needs) (λ c κs. search needs) (λ c κs. search needs) (λ c κs. search needs) (λ c κs. search needs)
+    (λ c κs. search needs) (λ c κs. search needs)
     (λ c. known (c .before .before .match .keys1) _ _ _ _ (c .unmarked .ensures ∙ ap withoutMark (c .before .sum .ensures)))
     (λ c. known (c .before .before .match .keys2) _ _ _ _ (c .unmarked2 .ensures ∙ ap withoutMark (c .before .difference .ensures)))
     (λ c. known (c .before .before .match .keys3) _ _ _ _ (c .unmarked3 .ensures ∙ ap withoutMark (c .before .product .ensures)))
-    (λ c. known (c .before .before .match .keys4) _ _ _ _ (c .unmarked4 .ensures ∙ ap withoutMark (c .before .quotient .ensures))) is-fraction
+    (λ c.
+    known (c .before .before .before .match .keys4) _ _ _ _
+    (c .unmarked4 .ensures ∙ ap withoutMark (c .before .without-digits .ensures ∙ ap withoutDigits (c .before .before .quotient .ensures)))) is-fraction
     (λ c. known (c .before .before .match .keys6) _ _ _ _ (c .order-number .ensures ∙ ap wholeOrder (c .before .compare .ensures)))
     (λ c. known (c .before .match .keys7) _ _ _ _ (c .magnitude .ensures)) (λ c. known (c .before .match .keys8) _ _ _ _ (c .negate .ensures))
     (λ c. known (c .before .match .keys9) _ _ _ _ (c .predecessor .ensures)) (λ c. known (c .before .match .keys10) _ _ _ _ (c .successor .ensures))
@@ -67,7 +71,10 @@ answer-of-spec =
     (λ c. known (c .before .before .match .keys16) _ _ _ _ (c .inexact-number .ensures ∙ ap inexactWhole (c .before .sum2 .ensures)))
     (λ c. known (c .before .before .match .keys17) _ _ _ _ (c .inexact-number2 .ensures ∙ ap inexactWhole (c .before .difference2 .ensures)))
     (λ c. known (c .before .before .match .keys18) _ _ _ _ (c .inexact-number3 .ensures ∙ ap inexactWhole (c .before .product2 .ensures)))
-    (λ c. known (c .before .before .match .keys19) _ _ _ _ (c .inexact-number4 .ensures ∙ ap inexactWhole (c .before .quotient2 .ensures)))
+    (λ c.
+    known (c .before .before .before .match .keys19) _ _ _ _
+    (c .inexact-number4 .ensures ∙ ap inexactWhole (c .before .without-digits2 .ensures ∙ ap withoutDigits (c .before .before .quotient2 .ensures))))
     (λ c. known (c .before .match .keys20) _ _ _ _ (c .read-decimal32 .ensures))
     (λ c. known (c .before .before .match .keys21) _ _ _ _ (c .pattern-number5 .ensures ∙ ap patternNumber (c .before .write-decimal32 .ensures)))
-    (λ c. c .first-step .ensures ∙ ap firstOfSteps (c .before .fast-two-sum .ensures) ∙ past _ (none-below _ 21 (c .before .before .match .rest)) _ _ _ _))
+    (λ c. known (c .before .before .match .keys22) _ _ _ _ (c .digits-number .ensures ∙ ap digitsWhole (c .before .quotient3 .ensures)))
+    (λ c. c .first-step .ensures ∙ ap firstOfSteps (c .before .fast-two-sum .ensures) ∙ past _ (none-below _ 22 (c .before .before .match .rest)) _ _ _ _))

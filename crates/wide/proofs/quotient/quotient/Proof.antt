@@ -1,9 +1,10 @@
 -- `wide::quotient::quotient` meets its contract: the cut is that of the exact quotient.
-use Rattle.theory.proofs.Prelude.{ℕ, _≤_, _<_, _+_, _^_, _*_, xor, _∙_, _≡_, mul-pos, arith, needs}
+use Rattle.theory.proofs.Prelude.{ℕ, _≤_, _<_, _+_, _^_, _*_, xor, _∙_, _≡_, mul-pos, eq-eqb, arith, needs}
 use Rattle.rounding.proofs.Prelude.{pow-pos, cutOf, positional, digits-most}
 use Rattle.wide.specs.Operand.{sizeOf}
+use Rattle.wide.specs.Quotient.{digitsOf}
 use Rattle.wide.proofs.Sizes.{shifted-size}
-use Rattle.wide.proofs.Quotients.{quotient-exact}
+use Rattle.wide.proofs.Quotients.{quotient-exact, digits-of}
 use Rattle.wide.proofs.Finishes.{finishes, rounds-zero}
 use Rattle.wide.proofs.quotient.quotient.Statement.{statement}
 use Rattle.wide.proofs.quotient.quotient.Tie as tie
@@ -33,28 +34,42 @@ normal c = c .before .before .before .before .before
 
 -- the cut is that of the exact quotient
 exact : (c : tie.After-quotient-cut) → let s = start (normal c) in
-    c .quotient-cut .result ≡ cutOf (s .args .scale .base) (s .args .scale .digits) (numerator s) (denominator s)
+    c .quotient-cut .result .cut ≡ cutOf (s .args .scale .base) (s .args .scale .digits) (numerator s) (denominator s)
 exact c =
     let b = normal c in
     let s = start b in
     let a = s .args in
-    c .quotient-cut .ensures
+    c .quotient-cut .ensures .0
     ∙ quotient-exact (s .pre .0) (a .x .place) (a .y .place) (a .up) (a .down) (b .before .normalise .ensures) (b .normalise2 .ensures) (s .pre .3)
+
+-- and its digits are those of the operands
+counted : (c : tie.After-quotient-cut) → let a = start (normal c) .args in
+    c .quotient-cut .result .digits ≡ digitsOf (a .scale .base) (a .scale .digits) (a .x .significand) (a .y .significand) (a .x .place + a .up) (a .y .place + a .down)
+counted c =
+    let b = normal c in
+    let s = start b in
+    let a = s .args in
+    c .quotient-cut .ensures .1
+    ∙ digits-of (s .pre .0) (a .x .place + a .up) (a .y .place + a .down) (omega (arith, b .before .before .if1 .left)) (s .pre .3) (b .before .normalise .ensures) (b .normalise2 .ensures)
 
 pub quotient-spec : {M : Type 1} → statement M
 unfolding xor
 quotient-spec =
     tie.close
     (tie.spec
-    (λ c. let s = c .before .before .before .before in rounds-zero (positional (s .pre .0)) (s .args .direction) _ (denominator s) (positive s) (rw (c .if1 .taken) (omega arith)))
+    (λ c.
+    let s = c .before .before .before .before in (
+      rounds-zero (positional (s .pre .0)) (s .args .direction) _ (denominator s) (positive s) (rw (c .if1 .taken) (omega arith)),
+      rw (eq-eqb (s .args .x .significand) 0 (c .if1 .taken)),
+    ))
     (λ c κs. search needs) (λ c κs. search needs) (λ c. search needs) (λ c. omega (arith, high-most (c .before .before)))
     (λ c. search needs) (λ c. omega (arith, low-most (c .before .before .before .before)))
     (λ c κs.
     let b = c .before .before .before .before in
     (start b .pre .0, b .before .normalise .ensures .leading, b .normalise2 .ensures .leading, high-most b, low-most b))
     (λ c κs.
-    let s = start (normal c) in
+    let s = start (normal (c .before)) in
     let p = s .pre in
-    finishes (p .0) _ _ (positive s) (exact c) (2 ^ 30) (omega arith)
+    finishes (p .0) _ _ (positive s) (exact (c .before)) (2 ^ 30) (omega arith)
     (shifted-size (positional (p .0)) (s .args .x) (p .1 .canonical) (s .args .up) (2 ^ 30) (omega (arith, p .1 .place-most, p .4))))
-    (λ c. c .finish .ensures _ _ (positive (start (normal (c .before)))) (exact (c .before))))
+    (λ c. let k = c .before .before in (c .finish .ensures _ _ (positive (start (normal k))) (exact k), counted k)))

@@ -1,11 +1,11 @@
--- `units::powers_of_base::trailing_zeros` meets its contract: the loop takes the zeros off one by one.
-use Rattle.theory.proofs.Prelude.{ℕ, _≤_, _<_, _+_, _^_, _*_, _-_, suc, zero, _%_, _/_, _∙_, ap, _≡_, sym, refl, subst, mul-le-mul-right, mul-le-mul-left, pow-zero, div-add-mod', pow-suc, mul-one, add-one, lt-of-not-le, pow-le-pow-left, arith, needs}
+-- `format::powers::zeros_by_division` meets its contract: the loop takes the zeros off one by one.
+use Rattle.theory.proofs.Prelude.{ℕ, _≤_, _<_, _+_, _^_, _*_, suc, zero, _%_, _/_, _∙_, ap, _≡_, sym, refl, subst, mul-le-mul-right, mul-le-mul-left, pow-zero, div-add-mod', pow-suc, mul-one, add-one, lt-of-not-le, pow-le-pow-left, arith, needs}
 use Rattle.theory.specs.Units.{zeros}
 use Rattle.theory.proofs.Powers.{pow-pos, pow-mono}
 use Rattle.theory.proofs.Multiples.{Multiple, multiple-mod, multiple-cancel}
 use Rattle.theory.proofs.LeastPlace.{Ends, ends-zeros}
-use Rattle.units.proofs.powers_of_base.trailing_zeros.Statement.{statement}
-use Rattle.units.proofs.powers_of_base.trailing_zeros.Tie as tie
+use Rattle.format.proofs.powers.zeros_by_division.Statement.{statement}
+use Rattle.format.proofs.powers.zeros_by_division.Tie as tie
 
 abbrev Inv-loop : tie.InvT-loop
 Inv-loop base m factor rest₀ count₀ rest count = (m ≡ rest * base ^ count) × (1 ≤ rest)
@@ -60,8 +60,8 @@ returns c =
     let i = c .before .loop .inv in
     sym (ends-zeros (s .pre .0) (s .pre .1) (ended (s .args .base) (s .args .m) (c .before .loop .rest) (c .before .loop .count) (s .pre .0) (i .0) (c .loop-test .left)))
 
-pub trailing-zeros-spec : {M : Type 1} → statement M
-trailing-zeros-spec =
+pub zeros-by-division-spec : {M : Type 1} → statement M
+zeros-by-division-spec =
     tie.close
     (tie.spec
     Inv-loop μ-loop (λ c. (rw (pow-zero, mul-one), c .pre .1)) (λ c. omega (arith, c .before .pre .0))

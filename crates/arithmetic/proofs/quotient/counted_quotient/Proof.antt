@@ -1,14 +1,18 @@
--- `arithmetic::quotient::marked_quotient` meets its contract: the quotient in the wide format, delivered.
-use Rattle.theory.proofs.Prelude.{_≤_, _∙_, ap, sym, arith, w32, SFits, needs}
+-- `arithmetic::quotient::counted_quotient` meets its contract: the quotient in the wide format, delivered.
+use Rattle.theory.proofs.Prelude.{_≤_, _∙_, ap, ap₂, _≡_, sym, arith, w32, SFits, needs}
 use Rattle.arithmetic.specs.Marked.{marked, markedQuotient}
+use Rattle.arithmetic.specs.Quotients.{withDigits, quotientDigits}
 use Rattle.arithmetic.proofs.Prelude.{back, emin-admitted, known}
 use Rattle.arithmetic.proofs.Prepared.{Delivers, Parts, parts, divisor-none, scale-scaled, bounded, quotient-delivers}
-use Rattle.arithmetic.proofs.quotient.marked_quotient.Statement.{statement}
-use Rattle.arithmetic.proofs.quotient.marked_quotient.Tie as tie
+use Rattle.arithmetic.proofs.QuotientPlaces.{counted-digits}
+use Rattle.arithmetic.proofs.quotient.counted_quotient.Statement.{statement}
+use Rattle.arithmetic.proofs.quotient.counted_quotient.Tie as tie
 
 returns : tie.Need-returns
 unfolding marked
-returns c = let s = c .before .before .args in sym (ap (marked (s .prepared .format) _ _) (divisor-none (s .prepared .format) (s .direction) (s .a) (s .b) (c .if1 .taken)))
+returns c =
+    let s = c .before .before .args in
+    sym (ap (withDigits _) (ap (marked (s .prepared .format) _ _) (divisor-none (s .prepared .format) (s .direction) (s .a) (s .b) (c .if1 .taken))))
 
 emin-fits : (c : tie.Start) → SFits w32 (c .args .prepared .format .emin)
 emin-fits c = search needs
@@ -41,17 +45,24 @@ quotient-requires c κs =
 
 -- what comes from the wide format
 result : (c : tie.After-quotient) → let s = start (c .before) .args in
-    Delivers (s .prepared .format) (c .quotient .result) (markedQuotient (s .prepared .format) (s .direction) (s .a) (s .b))
+    Delivers (s .prepared .format) (c .quotient .result .rounding) (markedQuotient (s .prepared .format) (s .direction) (s .a) (s .b))
 result c =
     let o = operands (c .before) in
     let s = start (c .before) in
-    quotient-delivers (s .pre .usable) (s .args .direction) (s .args .a) (s .args .b) (o .before .wide-of .ensures) (o .wide-of2 .ensures) (some (c .before)) (unit (c .before)) (c .quotient .ensures)
+    quotient-delivers (s .pre .usable) (s .args .direction) (s .args .a) (s .args .b) (o .before .wide-of .ensures) (o .wide-of2 .ensures) (some (c .before)) (unit (c .before)) (c .quotient .ensures .0)
 
-pub marked-quotient-spec : {M : Type 1} → statement M
-marked-quotient-spec =
+digits : (c : tie.After-quotient) → let s = start (c .before) .args in c .quotient .result .digits ≡ quotientDigits (s .prepared .format) (s .a) (s .b)
+digits c =
+    let o = operands (c .before) in
+    counted-digits (start (c .before) .pre) (o .before .wide-of .ensures) (o .wide-of2 .ensures) (unit (c .before)) (c .quotient .ensures .1)
+
+pub counted-quotient-spec : {M : Type 1} → statement M
+counted-quotient-spec =
     tie.close
     (tie.spec
     returns (λ c κs. search needs) (λ c κs. search needs)
     (λ c κs. let s = c .before .before .before .before .before .before in rw (back (emin-fits s)) (emin-admitted (known (s .pre .usable) .admits)))
-    (λ c κs. search needs) quotient-requires (λ c κs. (start (c .before) .pre .usable, result c .canonical))
-    (λ c. c .deliver-wide .ensures ∙ result (c .before) .is))
+    (λ c κs. search needs) quotient-requires (λ c κs. (start (c .before .before) .pre .usable, result (c .before) .canonical)) (λ c κs. search needs)
+    (λ c.
+    let q = c .before .before .before in
+    c .with-digits .ensures ∙ ap₂ withDigits (digits q) (c .before .deliver-wide .ensures ∙ result q .is)))
