@@ -53,7 +53,7 @@ static bool same_number(zurkeb_number a, zurkeb_number b) {
 #define INTEL_PEER(name, word, prefix, layout)                                                                                            \
     typedef word (*name##_call)(word, word, _IDEC_round, _IDEC_flags *);                                                                  \
     static word name##_left[PAIRS], name##_right[PAIRS];                                                                                  \
-    static const name##_call name##_calls[OPERATIONS] = {prefix##_add, prefix##_mul, prefix##_div};                                       \
+    static const name##_call name##_calls[OPERATIONS] = {prefix##_add, prefix##_sub, prefix##_mul, prefix##_div};                         \
     static void name##_prepare(zurkeb_format f, const pair pairs[PAIRS]) {                                                                \
         (void)f;                                                                                                                          \
         for (int i = 0; i < PAIRS; i++) {                                                                                                 \

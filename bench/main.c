@@ -1,5 +1,5 @@
-/* The benchmark: nanoseconds for each call of the C interface, beside MPFR and Intel's decimal library on the same operands, and a
- * comparison of all results. Prints tables in Markdown. */
+/* The benchmark: nanoseconds for each call of the C interface, beside MPFR, Intel's decimal library and Berkeley SoftFloat on the same
+ * operands, and a comparison of all results. Prints tables in Markdown. */
 #include <inttypes.h>
 #include <stdbool.h>
 #include <stdio.h>
@@ -13,19 +13,20 @@
 #include "receivers.h"
 #include "timing.h"
 
-const our_call our_calls[OPERATIONS] = {zurkeb_sum, zurkeb_product, rounded_quotient};
-static const char *const operation_names[OPERATIONS] = {"sum", "product", "quotient"};
+const our_call our_calls[OPERATIONS] = {zurkeb_sum, zurkeb_difference, zurkeb_product, rounded_quotient};
+static const char *const operation_names[OPERATIONS] = {"sum", "difference", "product", "quotient"};
 
-/* A format and its operands. */
+/* A format and its operands, those of all kinds and the simple ones. */
 typedef struct setting {
     const char *name;
     zurkeb_format format;
-    pair pairs[PAIRS];
+    pair pairs[PAIRS], simple[PAIRS];
 } setting;
 
 typedef struct our_work {
     enum operation operation;
-    const setting *in;
+    zurkeb_format format;
+    const pair *pairs;
 } our_work;
 
 static uint64_t used_fields(uint32_t refusal, zurkeb_number x) {
@@ -45,7 +46,7 @@ static uint64_t operation_pass(const void *what) {
     our_call call = our_calls[w->operation];
     uint64_t used = 0;
     for (int i = 0; i < PAIRS; i++)
-        used ^= used_rounded(call(w->in->format, ZURKEB_NEAREST_EVEN, w->in->pairs[i].a, w->in->pairs[i].b));
+        used ^= used_rounded(call(w->format, ZURKEB_NEAREST_EVEN, w->pairs[i].a, w->pairs[i].b));
     return used;
 }
 
@@ -90,21 +91,35 @@ static void compare_with(const peer *p, const setting *in) {
     printf("\n%s against %s: %u results compared, %u differ; %u refused\n", in->name, p->name, compared, different, refused);
 }
 
+/* Times all operations of one set of operands on both sides in turn. */
+static void time_peer(const peer *p, zurkeb_format format, const pair pairs[PAIRS], timed t[OPERATIONS][2]) {
+    p->prepare(format, pairs);
+    for (int operation = 0; operation < OPERATIONS; operation++) {
+        our_work ours = {(enum operation)operation, format, pairs};
+        work works[2] = {{operation_pass, &ours}, p->work_of(ours.operation)};
+        time_works(works, t[operation], 2, PAIRS);
+    }
+}
+
+/* A table of both sets of operands: ours, the peer's, the ratio. */
+static void print_ratios(const char *name, const char *peer_name, timed mixed[OPERATIONS][2], timed simple[OPERATIONS][2]) {
+    printf("\n| %s | ns | %s ns | ratio | simple: ns | %s ns | ratio |\n|---|---|---|---|---|---|---|\n", name, peer_name, peer_name);
+    for (int operation = 0; operation < OPERATIONS; operation++) {
+        const timed *m = mixed[operation], *s = simple[operation];
+        printf("| %s | %.1f | %.1f | %.2f | %.1f | %.1f | %.2f |\n", operation_names[operation], m[0].best, m[1].best,
+               m[0].best / m[1].best, s[0].best, s[1].best, s[0].best / s[1].best);
+    }
+}
+
 static void against_peer(const peer *p, const setting *in) {
     if (!p->installed) {
         printf("\n%s is not installed (Debian %s): left out\n", p->name, p->package);
         return;
     }
-    p->prepare(in->format, in->pairs);
-    printf("\n| %s | ns | median | %s ns | median | ratio |\n|---|---|---|---|---|---|\n", in->name, p->name);
-    for (int operation = 0; operation < OPERATIONS; operation++) {
-        our_work ours = {(enum operation)operation, in};
-        work works[2] = {{operation_pass, &ours}, p->work_of(ours.operation)};
-        timed t[2];
-        time_works(works, t, 2, PAIRS);
-        printf("| %s | %.1f | %.1f | %.1f | %.1f | %.2f |\n", operation_names[operation], t[0].best, t[0].median, t[1].best, t[1].median,
-               t[0].best / t[1].best);
-    }
+    timed mixed[OPERATIONS][2], simple[OPERATIONS][2];
+    time_peer(p, in->format, in->simple, simple);
+    time_peer(p, in->format, in->pairs, mixed);
+    print_ratios(in->name, p->name, mixed, simple);
     compare_with(p, in);
 }
 
@@ -112,7 +127,8 @@ static void all_formats(const setting *settings, int count) {
     printf("\n| format | sum | product | quotient | ufp | successor | check_number |\n|---|---|---|---|---|---|---|\n");
     for (int s = 0; s < count; s++) {
         const setting *in = &settings[s];
-        our_work sum = {SUM, in}, product = {PRODUCT, in}, quotient = {QUOTIENT, in};
+        our_work sum = {SUM, in->format, in->pairs}, product = {PRODUCT, in->format, in->pairs},
+                 quotient = {QUOTIENT, in->format, in->pairs};
         number_work ufp = {zurkeb_ufp, in}, successor = {zurkeb_successor, in};
         work works[6] = {{operation_pass, &sum}, {operation_pass, &product}, {operation_pass, &quotient},
                          {number_pass, &ufp},    {number_pass, &successor},  {check_number_pass, in}};
@@ -194,13 +210,36 @@ static void three_steps(const setting *in) {
     printf("| fast_two_sum | %.1f | %.1f |\n| is_fast_two_sum | %.1f | %.1f |\n", t[0].best, t[0].median, t[1].best, t[1].median);
 }
 
-/* The binary operands as patterns. */
-typedef struct patterns {
-    uint32_t a[PAIRS], b[PAIRS], out[PAIRS];
-    const setting *in;
-} patterns;
+/* ---- patterns */
+typedef uint64_t (*pattern_call)(uint32_t, uint32_t, uint32_t);
+static const pattern_call pattern_calls[OPERATIONS] = {zurkeb_pattern_sum, zurkeb_pattern_difference, zurkeb_pattern_product,
+                                                       zurkeb_pattern_quotient};
 
-static patterns shared;
+typedef struct pattern_work {
+    enum operation operation;
+    const patterns *operands;
+} pattern_work;
+
+static uint64_t pattern_pass(const void *what) {
+    const pattern_work *w = what;
+    pattern_call call = pattern_calls[w->operation];
+    uint64_t used = 0;
+    for (int i = 0; i < PAIRS; i++)
+        used ^= call(w->operands->a[i], w->operands->b[i], ZURKEB_NEAREST_EVEN);
+    return used;
+}
+
+static uint64_t soft_pass(const void *what) {
+    const pattern_work *w = what;
+    return softfloat_peer.pass(w->operation, w->operands);
+}
+
+static uint64_t slices_pass(const void *what) {
+    const patterns *p = what;
+    static uint32_t out[PAIRS];
+    zurkeb_slices_answer r = zurkeb_sum_slices(p->a, PAIRS, p->b, PAIRS, out, PAIRS, ZURKEB_NEAREST_EVEN);
+    return r.refusal ^ r.index ^ out[PAIRS - 1];
+}
 
 static uint64_t read_pass(const void *what) {
     const patterns *p = what;
@@ -211,47 +250,59 @@ static uint64_t read_pass(const void *what) {
 }
 
 static uint64_t write_pass(const void *what) {
-    const setting *in = ((const patterns *)what)->in;
+    const setting *in = what;
     uint64_t used = 0;
     for (int i = 0; i < PAIRS; i++)
         used ^= zurkeb_write_pattern(in->pairs[i].a);
     return used;
 }
 
-typedef uint64_t (*pattern_call)(uint32_t, uint32_t, uint32_t);
-
-static uint64_t pattern_pass(const void *what) {
-    pattern_call call = *(const pattern_call *)what;
-    uint64_t used = 0;
-    for (int i = 0; i < PAIRS; i++)
-        used ^= call(shared.a[i], shared.b[i], ZURKEB_NEAREST_EVEN);
-    return used;
+static void as_patterns(const pair pairs[PAIRS], patterns *to) {
+    for (int i = 0; i < PAIRS; i++) {
+        to->a[i] = (uint32_t)zurkeb_write_pattern(pairs[i].a);
+        to->b[i] = (uint32_t)zurkeb_write_pattern(pairs[i].b);
+    }
 }
 
-static uint64_t slices_pass(const void *what) {
-    (void)what;
-    zurkeb_slices_answer r = zurkeb_sum_slices(shared.a, PAIRS, shared.b, PAIRS, shared.out, PAIRS, ZURKEB_NEAREST_EVEN);
-    return r.refusal ^ r.index ^ shared.out[PAIRS - 1];
+static void time_patterns(const patterns *operands, timed t[OPERATIONS][2]) {
+    for (int operation = 0; operation < OPERATIONS; operation++) {
+        pattern_work w = {(enum operation)operation, operands};
+        work works[2] = {{pattern_pass, &w}, {softfloat_peer.installed ? soft_pass : pattern_pass, &w}};
+        time_works(works, t[operation], 2, PAIRS);
+    }
+}
+
+/* Our patterns against SoftFloat's in every direction; refusals apart. */
+static void compare_patterns(const patterns *operands) {
+    unsigned compared = 0, different = 0;
+    for (int operation = 0; operation < OPERATIONS; operation++) {
+        for (uint32_t d = 0; d < 5; d++) {
+            for (int i = 0; i < PAIRS; i++) {
+                uint32_t a = operands->a[i], b = operands->b[i];
+                uint64_t r = pattern_calls[operation](a, b, d);
+                compared += r >> 32 == 0;
+                different += r >> 32 == 0 && (uint32_t)r != softfloat_peer.result((enum operation)operation, d, a, b);
+            }
+        }
+    }
+    printf("\npatterns against %s: %u results compared, %u differ\n", softfloat_peer.name, compared, different);
 }
 
 static void all_patterns(const setting *in) {
-    static const pattern_call calls[4] = {zurkeb_pattern_sum, zurkeb_pattern_difference, zurkeb_pattern_product,
-                                          zurkeb_pattern_quotient};
-    static const char *const names[7] = {"pattern_sum",      "sum_slices, an entry", "pattern_difference", "pattern_product",
-                                         "pattern_quotient", "read_pattern",         "write_pattern"};
-    work works[7] = {{pattern_pass, &calls[0]}, {slices_pass, NULL},  {pattern_pass, &calls[1]}, {pattern_pass, &calls[2]},
-                     {pattern_pass, &calls[3]}, {read_pass, &shared}, {write_pass, &shared}};
-    timed t[7];
-    shared.in = in;
-    for (int i = 0; i < PAIRS; i++) {
-        shared.a[i] = (uint32_t)zurkeb_write_pattern(in->pairs[i].a);
-        shared.b[i] = (uint32_t)zurkeb_write_pattern(in->pairs[i].b);
-    }
-    time_works(works, t, 7, PAIRS);
-    printf("\n| patterns | ns | median |\n|---|---|---|\n");
-    for (int w = 0; w < 7; w++)
-        printf("| %s | %.1f | %.1f |\n", names[w], t[w].best, t[w].median);
-    printf("\nslice entry / pattern_sum: %.2f\n", t[1].best / t[0].best);
+    static patterns mixed, simple;
+    timed m[OPERATIONS][2], s[OPERATIONS][2], t[3];
+    as_patterns(in->pairs, &mixed);
+    as_patterns(in->simple, &simple);
+    time_patterns(&simple, s);
+    time_patterns(&mixed, m);
+    print_ratios("patterns", softfloat_peer.installed ? softfloat_peer.name : "(no peer)", m, s);
+    if (softfloat_peer.installed)
+        compare_patterns(&mixed);
+    work works[3] = {{slices_pass, &mixed}, {read_pass, &mixed}, {write_pass, in}};
+    time_works(works, t, 3, PAIRS);
+    printf("\n| patterns | ns |\n|---|---|\n| sum_slices, an entry | %.1f |\n| read_pattern | %.1f |\n| write_pattern | %.1f |\n", t[0].best,
+           t[1].best, t[2].best);
+    printf("\nslice entry / pattern_sum: %.2f\n", t[0].best / m[SUM][0].best);
 }
 
 int main(void) {
@@ -259,15 +310,17 @@ int main(void) {
                                  {.name = "decimal32"},
                                  {.name = "binary64"},
                                  {.name = "decimal64"},
-                                 {"base 3, 19 digits", {3, 19, -100, 100}, {{{0}, {0}}}},
-                                 {"base 16, 7 digits", {16, 7, -100, 100}, {{{0}, {0}}}},
-                                 {"base 100, 4 digits", {100, 4, -100, 100}, {{{0}, {0}}}},
-                                 {"base 256, 3 digits", {256, 3, -100, 100}, {{{0}, {0}}}}};
+                                 {"base 3, 19 digits", {3, 19, -100, 100}, {{{0}, {0}}}, {{{0}, {0}}}},
+                                 {"base 16, 7 digits", {16, 7, -100, 100}, {{{0}, {0}}}, {{{0}, {0}}}},
+                                 {"base 100, 4 digits", {100, 4, -100, 100}, {{{0}, {0}}}, {{{0}, {0}}}},
+                                 {"base 256, 3 digits", {256, 3, -100, 100}, {{{0}, {0}}}, {{{0}, {0}}}}};
     enum { count = sizeof settings / sizeof *settings };
     for (int s = 0; s < 4; s++)
         settings[s].format = zurkeb_published((uint32_t)s + 2).format;
     for (int s = 0; s < count; s++)
         draw_pairs(settings[s].format, settings[s].pairs);
+    for (int s = 0; s < count; s++)
+        draw_simple(settings[s].format, settings[s].simple, PAIRS);
     against_peer(&mpfr_peer, &settings[0]);
     against_peer(&intel_peer, &settings[1]);
     against_peer(&mpfr_peer, &settings[2]);

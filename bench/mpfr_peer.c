@@ -8,7 +8,7 @@
 typedef int (*mpfr_call)(mpfr_ptr, mpfr_srcptr, mpfr_srcptr, mpfr_rnd_t);
 
 static mpfr_t left[PAIRS], right[PAIRS], result, ours_read;
-static const mpfr_call calls[OPERATIONS] = {mpfr_add, mpfr_mul, mpfr_div};
+static const mpfr_call calls[OPERATIONS] = {mpfr_add, mpfr_sub, mpfr_mul, mpfr_div};
 /* By our direction; MPFR has none for 1. */
 static const mpfr_rnd_t modes[5] = {MPFR_RNDN, MPFR_RNDF, MPFR_RNDZ, MPFR_RNDU, MPFR_RNDD};
 

@@ -83,3 +83,11 @@ void draw_pairs(zurkeb_format f, pair pairs[PAIRS]) {
         }
     }
 }
+
+void draw_simple(zurkeb_format f, pair *pairs, int count) {
+    for (int i = 0; i < count; i++) {
+        pairs[i] = (pair){normal(f, 0), normal(f, 0)};
+        pairs[i].a.exponent = between(-15, 15);
+        pairs[i].b.exponent = between(-15, 15);
+    }
+}

@@ -21,5 +21,7 @@ uint32_t random32(void);
 /* Fills the pairs: a quarter near in exponent, a quarter far apart, a quarter cancelling, a quarter subnormal or with subnormal
  * results, in random order. No divisor is zero, and no sum, product or quotient is too large. */
 void draw_pairs(zurkeb_format format, pair pairs[PAIRS]);
+/* Simple pairs: of either sign, with all digits, exponents from -15 to 15. */
+void draw_simple(zurkeb_format format, pair *pairs, int count);
 
 #endif

@@ -1,36 +1,67 @@
-/* Calls one operation of the C interface a given number of times on simple operands, for an instruction counter: bench/count/run
- * counts two runs and divides the difference by the difference in calls. Arguments: the operation, base, digits, and the count. */
-#include <stdio.h>
+/* Makes calls of the C interface on 1,024 simple pairs of operands, over and over, for an instruction counter: bench/count/run counts two
+ * runs and divides the difference by the difference in calls. Arguments: the call, base, digits, and how often the pairs are gone through. */
 #include <stdlib.h>
 #include <string.h>
 
-#include "zurkeb.h"
+#include "../operands.h"
+
+enum { SIMPLE = 1024 };
 
 typedef zurkeb_rounded_answer (*our_call)(zurkeb_format, uint32_t, zurkeb_number, zurkeb_number);
+typedef uint64_t (*pattern_call)(uint32_t, uint32_t, uint32_t);
 
-/* base^k */
-static uint64_t power(uint32_t base, uint32_t k) {
-    return k == 0 ? 1 : base * power(base, k - 1);
+static pair pairs[SIMPLE];
+static uint32_t left[SIMPLE], right[SIMPLE], out[SIMPLE];
+
+static uint64_t numbers_pass(our_call call, zurkeb_format format) {
+    uint64_t used = 0;
+    for (int i = 0; i < SIMPLE; i++)
+        used ^= call(format, ZURKEB_NEAREST_EVEN, pairs[i].a, pairs[i].b).number.significand;
+    return used;
+}
+
+static uint64_t quotients_pass(zurkeb_format format) {
+    uint64_t used = 0;
+    for (int i = 0; i < SIMPLE; i++)
+        used ^= zurkeb_quotient(format, ZURKEB_NEAREST_EVEN, pairs[i].a, pairs[i].b).number.significand;
+    return used;
+}
+
+static uint64_t patterns_pass(pattern_call call) {
+    uint64_t used = 0;
+    for (int i = 0; i < SIMPLE; i++)
+        used ^= call(left[i], right[i], ZURKEB_NEAREST_EVEN);
+    return used;
+}
+
+static uint64_t pass(const char *name, zurkeb_format format) {
+    static const char *const names[3] = {"sum", "difference", "product"};
+    static const char *const pattern_names[4] = {"pattern_sum", "pattern_difference", "pattern_product", "pattern_quotient"};
+    static const our_call calls[3] = {zurkeb_sum, zurkeb_difference, zurkeb_product};
+    static const pattern_call pattern_calls[4] = {zurkeb_pattern_sum, zurkeb_pattern_difference, zurkeb_pattern_product,
+                                                  zurkeb_pattern_quotient};
+    for (int i = 0; i < 3; i++)
+        if (strcmp(name, names[i]) == 0)
+            return numbers_pass(calls[i], format);
+    for (int i = 0; i < 4; i++)
+        if (strcmp(name, pattern_names[i]) == 0)
+            return patterns_pass(pattern_calls[i]);
+    if (strcmp(name, "sum_slices") == 0)
+        return zurkeb_sum_slices(left, SIMPLE, right, SIMPLE, out, SIMPLE, ZURKEB_NEAREST_EVEN).inexact;
+    return quotients_pass(format);
 }
 
 int main(int count, char **arguments) {
-    static const char *const names[4] = {"sum", "difference", "product", "quotient"};
-    static const our_call calls[3] = {zurkeb_sum, zurkeb_difference, zurkeb_product};
     if (count != 5)
         return 2;
-    int operation = 0;
-    while (operation < 3 && strcmp(arguments[1], names[operation]) != 0)
-        operation++;
-    uint32_t base = (uint32_t)atoi(arguments[2]), digits = (uint32_t)atoi(arguments[3]);
-    long times = atol(arguments[4]);
-    zurkeb_format format = {base, digits, -101, 90};
-    uint64_t least = power(base, digits - 1);
-    zurkeb_number a = {least + least / 2, 0, 0}, b = {least + least / 3, -2, 0};
+    zurkeb_format format = {(uint32_t)atoi(arguments[2]), (uint32_t)atoi(arguments[3]), -149, 104};
     volatile uint64_t used = 0;
-    for (long i = 0; i < times; i++) {
-        a.significand ^= (uint64_t)(i & 1);
-        used ^= operation < 3 ? calls[operation](format, ZURKEB_NEAREST_EVEN, a, b).number.significand
-                              : zurkeb_quotient(format, ZURKEB_NEAREST_EVEN, a, b).number.significand;
+    draw_simple(format, pairs, SIMPLE);
+    for (int i = 0; i < SIMPLE; i++) {
+        left[i] = (uint32_t)zurkeb_write_pattern(pairs[i].a);
+        right[i] = (uint32_t)zurkeb_write_pattern(pairs[i].b);
     }
+    for (long i = atol(arguments[4]); i > 0; i--)
+        used ^= pass(arguments[1], format);
     return 0;
 }

@@ -10,7 +10,7 @@ unfoldable pub below : (ℕ → Bool) → ℕ → Bool
 below test zero = true
 below test (suc n) = test n and below test n
 
-at-below : (test : ℕ → Bool) (n : ℕ) → below test n ≡ true → (k : ℕ) → k < n → test k ≡ true
+pub at-below : (test : ℕ → Bool) (n : ℕ) → below test n ≡ true → (k : ℕ) → k < n → test k ≡ true
 unfolding below
 at-below test zero t k h = absurd (not-suc-le-zero h)
 at-below test (suc n) t k h = go (ℕ-discrete k n) (at-below test n (and-right (test n) (below test n) t) k)

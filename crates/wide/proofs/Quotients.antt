@@ -1,5 +1,5 @@
 -- The quotient's exact value and its cut.
-use Rattle.theory.proofs.Prelude.{ℕ, _≤_, _<_, _+_, _^_, _*_, _-_, suc, zero, _%_, _/_, ⊎-elim, inl, inr, _⊎_, _≢_, _∙_, ap, _≡_, sym, refl, ap₂, subst, decLe, ℕ-discrete, mul-le-mul-right, mul-le-mul-left, pow-zero, mul-pos, mul-lt-mul-of-pos-right, lt-of-mul-lt-mul-right, div-add-mod', mod-lt, le-of-mul-le-mul-left, le-div-iff-mul-le, le-ltb, eq-eqb, ne-eqb, arith}
+use Rattle.theory.proofs.Prelude.{ℕ, _≤_, _<_, _+_, _^_, _*_, _-_, suc, zero, _%_, _/_, ⊎-elim, inl, inr, _⊎_, _≢_, _∙_, ap, _≡_, sym, refl, ap₂, subst, decLe, ℕ-discrete, mul-le-mul-right, mul-le-mul-left, pow-zero, mul-one, mul-pos, mul-lt-mul-of-pos-right, lt-of-mul-lt-mul-right, div-add-mod', mod-lt, le-of-mul-le-mul-left, le-div-iff-mul-le, le-ltb, eq-eqb, ne-eqb, arith}
 use native.Mathlib.Nat.{mul-div-mul-right, mul-right-comm}
 use lib.Arith.{digits-mod}
 use Rattle.rounding.proofs.Prelude.{Positional, step, pow-add, pow-pos, pow-mono, pow-half, Scale, Scaled, Below, cutOf, dropped, Digits, Location, dropped-made, located, located-scaled, located-below, positional, power-at, count-le, least-bound, power-one}
@@ -232,3 +232,7 @@ digits-of {s} h {m} up down some some′ sa sb =
     let la = shifted-lacking h some sa in
     let lb = shifted-lacking h some′ sb in
     rw (ne-eqb m 0 (λ e. omega arith), la .0, la .1, lb .0, lb .1)
+
+-- a significand that is not below the least normal one lacks no digit
+pub shifted-none : {s : Scale} → Scaled s → {m : ℕ} → s .least ≤ m → m < s .bound → Shifted s m m 0
+shifted-none h {m} l k = record { is = sym (rw pow-zero (mul-one m)); leading = record { least = l; most = k }; shift-most = h .digits-least }

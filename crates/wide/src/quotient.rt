@@ -170,8 +170,18 @@ pub fn quotient(
         };
         return CountedRounding { rounding, digits };
     }
-    let a = normalise(scale, x.significand);
-    let b = normalise(scale, y.significand);
+    let mut a = Normal {
+        value: x.significand,
+        shift: 0,
+    };
+    let mut b = Normal {
+        value: y.significand,
+        shift: 0,
+    };
+    if (x.significand < scale.least) | (y.significand < scale.least) {
+        a = normalise(scale, x.significand);
+        b = normalise(scale, y.significand);
+    }
     let high = x.place + up + b.shift;
     let low = y.place + down + a.shift;
     let counted = quotient_cut(scale, a.value, b.value, high, low);

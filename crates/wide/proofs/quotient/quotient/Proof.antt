@@ -1,10 +1,13 @@
 -- `wide::quotient::quotient` meets its contract: the cut is that of the exact quotient.
-use Rattle.theory.proofs.Prelude.{ℕ, _≤_, _<_, _+_, _^_, _*_, xor, _∙_, _≡_, mul-pos, eq-eqb, arith, needs}
-use Rattle.rounding.proofs.Prelude.{pow-pos, cutOf, positional, digits-most}
+use Rattle.theory.proofs.Prelude.{ℕ, _≤_, _<_, _+_, _^_, _*_, true, false, Bool, xor, ⊎-elim, _∙_, _≡_, refl, mul-pos, eq-eqb, ltb, ltb-false, arith, needs}
+use mathlib.Core.Bool.{_||_}
+use Rattle.theory.proofs.Tests.{never}
+use Rattle.rounding.proofs.Prelude.{pow-pos, Scale, cutOf, positional, digits-most}
+use Rattle.wide.specs.declared.quotient.Normal.{Normal}
 use Rattle.wide.specs.Operand.{sizeOf}
-use Rattle.wide.specs.Quotient.{digitsOf}
+use Rattle.wide.specs.Quotient.{Shifted, digitsOf}
 use Rattle.wide.proofs.Sizes.{shifted-size}
-use Rattle.wide.proofs.Quotients.{quotient-exact, digits-of}
+use Rattle.wide.proofs.Quotients.{quotient-exact, digits-of, shifted-none}
 use Rattle.wide.proofs.Finishes.{finishes, rounds-zero}
 use Rattle.wide.proofs.quotient.quotient.Statement.{statement}
 use Rattle.wide.proofs.quotient.quotient.Tie as tie
@@ -20,16 +23,41 @@ positive c =
     let b = c .pre .0 .base-least in
     mul-pos (mul-pos (c .pre .3) (pow-pos b (c .args .y .place))) (pow-pos b (c .args .down))
 
-abbrev start : tie.After-normalise2 → tie.Start
-start c = c .before .before .before .before .before .before
+abbrev start : tie.Joined2 → tie.Start
+start c = c .before .before .before .before .before .before .before .before .before
 
-high-most : (c : tie.After-normalise2) → start c .args .x .place + start c .args .up + c .normalise2 .result .shift < 2 ^ 30
-high-most c = let p = start c .pre in omega (arith, p .1 .place-most, p .4, c .normalise2 .ensures .shift-most, digits-most (p .0))
+-- both significands, with all their digits
+shifted-at : {s : Scale} {m : ℕ} {n n′ : Normal} → n ≡ n′ → Shifted s m (n′ .value) (n′ .shift) → Shifted s m (n .value) (n .shift)
+shifted-at e h = rw e h
 
-low-most : (c : tie.After-normalise2) → start c .args .y .place + start c .args .down + c .before .normalise .result .shift < 2 ^ 30
-low-most c = let p = start c .pre in omega (arith, p .2 .place-most, p .5, c .before .normalise .ensures .shift-most, digits-most (p .0))
+neither : (t u : Bool) → t || u ≡ false → (t ≡ false) × (u ≡ false)
+neither true u e = absurd (never e)
+neither false u e = (refl, e)
 
-abbrev normal : tie.After-quotient-cut → tie.After-normalise2
+small : (c : tie.Start) → (c .args .x .significand < c .args .scale .bound) × (c .args .y .significand < c .args .scale .bound)
+small c = let p = c .pre in (omega (arith, p .1 .canonical .small, p .0 .bound-power), omega (arith, p .2 .canonical .small, p .0 .bound-power))
+
+first : (c : tie.Joined2) → let s = start c .args in Shifted (s .scale) (s .x .significand) (c .if2 .a .value) (c .if2 .a .shift)
+first c =
+    let s = start c in
+    ⊎-elim (λ w. shifted-at (w .3) (w .1 .ensures))
+    (λ w. shifted-at (w .1) (shifted-none (s .pre .0) (ltb-false _ _ (neither (ltb (s .args .x .significand) (s .args .scale .least)) (ltb (s .args .y .significand) (s .args .scale .least)) (w .0 .left) .0)) (small s .0)))
+    (c .if2 .came)
+
+second : (c : tie.Joined2) → let s = start c .args in Shifted (s .scale) (s .y .significand) (c .if2 .b .value) (c .if2 .b .shift)
+second c =
+    let s = start c in
+    ⊎-elim (λ w. shifted-at (w .4) (w .2 .ensures))
+    (λ w. shifted-at (w .2) (shifted-none (s .pre .0) (ltb-false _ _ (neither (ltb (s .args .x .significand) (s .args .scale .least)) (ltb (s .args .y .significand) (s .args .scale .least)) (w .0 .left) .1)) (small s .1)))
+    (c .if2 .came)
+
+high-most : (c : tie.Joined2) → start c .args .x .place + start c .args .up + c .if2 .b .shift < 2 ^ 30
+high-most c = let p = start c .pre in omega (arith, p .1 .place-most, p .4, second c .shift-most, digits-most (p .0))
+
+low-most : (c : tie.Joined2) → start c .args .y .place + start c .args .down + c .if2 .a .shift < 2 ^ 30
+low-most c = let p = start c .pre in omega (arith, p .2 .place-most, p .5, first c .shift-most, digits-most (p .0))
+
+abbrev normal : tie.After-quotient-cut → tie.Joined2
 normal c = c .before .before .before .before .before
 
 -- the cut is that of the exact quotient
@@ -40,7 +68,7 @@ exact c =
     let s = start b in
     let a = s .args in
     c .quotient-cut .ensures .0
-    ∙ quotient-exact (s .pre .0) (a .x .place) (a .y .place) (a .up) (a .down) (b .before .normalise .ensures) (b .normalise2 .ensures) (s .pre .3)
+    ∙ quotient-exact (s .pre .0) (a .x .place) (a .y .place) (a .up) (a .down) (first b) (second b) (s .pre .3)
 
 -- and its digits are those of the operands
 counted : (c : tie.After-quotient-cut) → let a = start (normal c) .args in
@@ -50,7 +78,7 @@ counted c =
     let s = start b in
     let a = s .args in
     c .quotient-cut .ensures .1
-    ∙ digits-of (s .pre .0) (a .x .place + a .up) (a .y .place + a .down) (omega (arith, b .before .before .if1 .left)) (s .pre .3) (b .before .normalise .ensures) (b .normalise2 .ensures)
+    ∙ digits-of (s .pre .0) (a .x .place + a .up) (a .y .place + a .down) (omega (arith, b .before .before .before .before .before .if1 .left)) (s .pre .3) (first b) (second b)
 
 pub quotient-spec : {M : Type 1} → statement M
 unfolding xor
@@ -66,7 +94,7 @@ quotient-spec =
     (λ c. search needs) (λ c. omega (arith, low-most (c .before .before .before .before)))
     (λ c κs.
     let b = c .before .before .before .before in
-    (start b .pre .0, b .before .normalise .ensures .leading, b .normalise2 .ensures .leading, high-most b, low-most b))
+    (start b .pre .0, first b .leading, second b .leading, high-most b, low-most b))
     (λ c κs.
     let s = start (normal (c .before)) in
     let p = s .pre in
