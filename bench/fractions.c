@@ -13,24 +13,27 @@ typedef struct fractions {
     pair pairs[PAIRS];
 } fractions;
 
-static uint64_t used(zurkeb_rounded_answer r) {
-    return (uint64_t)r.refusal << 40 ^ (uint64_t)r.number.negative << 39 ^ (uint64_t)(uint32_t)r.number.exponent << 32 ^
-           r.number.significand;
+static uint64_t used(uint32_t refusal, zurkeb_number x) {
+    return (uint64_t)refusal << 40 ^ (uint64_t)x.negative << 39 ^ (uint64_t)(uint32_t)x.exponent << 32 ^ x.significand;
 }
 
 static uint64_t fraction_pass(const void *what) {
     const fractions *f = what;
     uint64_t all = 0;
-    for (int i = 0; i < PAIRS; i++)
-        all ^= used(zurkeb_fraction(f->format, ZURKEB_NEAREST_EVEN, f->numerators[i], f->denominators[i]));
+    for (int i = 0; i < PAIRS; i++) {
+        zurkeb_rounded_answer r = zurkeb_fraction(f->format, ZURKEB_NEAREST_EVEN, f->numerators[i], f->denominators[i]);
+        all ^= used(r.refusal, r.number);
+    }
     return all;
 }
 
 static uint64_t quotient_pass(const void *what) {
     const fractions *f = what;
     uint64_t all = 0;
-    for (int i = 0; i < PAIRS; i++)
-        all ^= used(rounded_quotient(f->format, ZURKEB_NEAREST_EVEN, f->pairs[i].a, f->pairs[i].b));
+    for (int i = 0; i < PAIRS; i++) {
+        zurkeb_quotient_answer r = zurkeb_quotient(f->format, ZURKEB_NEAREST_EVEN, f->pairs[i].a, f->pairs[i].b);
+        all ^= used(r.refusal, r.number);
+    }
     return all;
 }
 

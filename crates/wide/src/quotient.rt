@@ -179,8 +179,14 @@ pub fn quotient(
         shift: 0,
     };
     if (x.significand < scale.least) | (y.significand < scale.least) {
-        a = normalise(scale, x.significand);
-        b = normalise(scale, y.significand);
+        let made = Scale {
+            base: scale.base,
+            digits: scale.digits,
+            least: scale.least,
+            bound: scale.bound,
+        };
+        a = normalise(made, x.significand);
+        b = normalise(made, y.significand);
     }
     let high = x.place + up + b.shift;
     let low = y.place + down + a.shift;
