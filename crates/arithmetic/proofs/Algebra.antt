@@ -5,7 +5,8 @@ use Rattle.theory.proofs.Integers.{size-parts, size-signed, plus-sign}
 use Rattle.number.specs.Signs.{negated}
 use Rattle.arithmetic.specs.Operations.{zeroSign}
 use Rattle.wide.proofs.Signs.{sum-none}
-use Rattle.arithmetic.proofs.Prepared.{zero-swap, no-magnitude, parts-above, parts-below, divisor-positive, divisor-some}
+use Rattle.arithmetic.proofs.Prepared.{no-magnitude, parts-above, parts-below, divisor-positive, divisor-some}
+use Rattle.arithmetic.proofs.Pairs.{zero-swap}
 use Rattle.arithmetic.proofs.Outcome.{rounded-exact, roundedZ-exact}
 use Rattle.arithmetic.proofs.Calls.{Checked, call-passed}
 

@@ -1,5 +1,6 @@
 -- The laws that the operations' proofs go by, and the laws that a user expects.
 pub mod Prepared
+pub mod Pairs
 pub mod QuotientPlaces
 -- what an answer says of the exact result
 pub mod Outcome

@@ -1,7 +1,7 @@
 -- From a prepared format to the wide format and back: a number of the format is an operand there, and a result that comes back
 -- is the exact value, rounded and delivered.
-use Rattle.theory.proofs.Prelude.{w32, SFits, toZ, ofZ, ℕ, _≤_, _<_, _+_, _^_, _*_, suc, zero, true, false, Bool, cond, not, xor, _∙_, ap, _≡_, sym, refl, ap₂, pow-zero, zero-mul, mul-pos, arith, eqb, ℤ, pos, _+ℤ_, natAbs, _-ℤ_, negsuc, negℤ, _*ℤ_, +ℤ-comm, leb, ltZ, ne-eqb, eq-eqb}
-use Rattle.arithmetic.proofs.Prelude.{back, Direction, mark, unless, signed, isNegative, roundZ, pow-pos, Format, Prepared, Given, gives, refused, refusedAt, Number, Usable, Operands, aboveZero, belowZero, member, placeOf, magnitude, value, greatest, number, delivered, Member, members, member-made, known, Wide, Rounding, rounded, roundedZ, roundedProduct, roundedQuotient, roundedFraction, Rounded, above, below, size-parts, diff-parts, own-sign, scale-signed, member-canonical, member-highest, highest-most, delivered-same, number-of, number-value, signed-member, negated-value}
+use Rattle.theory.proofs.Prelude.{w32, SFits, toZ, ofZ, ℕ, _≤_, _<_, _+_, _^_, _*_, suc, zero, true, false, Bool, cond, not, xor, _∙_, ap, _≡_, sym, refl, ap₂, pow-zero, zero-mul, mul-pos, arith, eqb, ℤ, pos, _+ℤ_, natAbs, negsuc, negℤ, _*ℤ_, leb, ne-eqb, eq-eqb}
+use Rattle.arithmetic.proofs.Prelude.{back, Direction, mark, unless, signed, isNegative, roundZ, pow-pos, Format, Prepared, Given, gives, refused, refusedAt, Number, Usable, aboveZero, belowZero, member, placeOf, magnitude, value, greatest, number, delivered, members, member-made, known, Wide, Rounding, rounded, roundedZ, roundedProduct, roundedQuotient, roundedFraction, Rounded, above, below, own-sign, scale-signed, member-canonical, member-highest, highest-most, delivered-same, number-of, number-value, signed-member, negated-value}
 use Rattle.theory.specs.declared.Mark.{Mark}
 use Rattle.theory.specs.Signed.{signOr}
 use Rattle.theory.specs.Round.{round}
@@ -11,8 +11,9 @@ use Rattle.theory.proofs.Round.{round-exact}
 use Rattle.theory.proofs.Monotone.{round-mono}
 use Rattle.theory.proofs.Signed.{roundZ-signed}
 use Rattle.theory.specs.Wide.{Canonical, Wide as WideN}
+use Rattle.format.specs.declared.Scale.{Scale}
 use Rattle.format.specs.Formats.{Scaled, scaleOf}
-use Rattle.format.proofs.Signed.{Upto, apart, lt-true, lt-false}
+use Rattle.format.proofs.Signed.{apart}
 use Rattle.format.proofs.Formats.{Admitted, positional, scaled}
 use Rattle.number.specs.Signs.{withSign}
 use Rattle.rounding.specs.Cut.{Rounds}
@@ -20,9 +21,11 @@ use Rattle.wide.specs.Operand.{Bounded, sizeOf, valueOf}
 use Rattle.wide.specs.Sum.{RoundsZ}
 use Rattle.wide.proofs.Results.{sum-value}
 use Rattle.wide.proofs.Signs.{signed-times}
-use Rattle.arithmetic.specs.Operands.{wideOf, zeroSigned}
+use Rattle.wide.proofs.Products.{product-value, shifted-value}
+use Rattle.arithmetic.specs.declared.operands.Powers.{Powers}
+use Rattle.arithmetic.specs.Operands.{wideOf, productPowers, quotientPowers, zeroSigned}
 use Rattle.arithmetic.specs.Operations.{zeroSign}
-use Rattle.arithmetic.specs.Quotients.{withoutDigits, withDigits, quotientDigits, countedQuotient}
+use Rattle.arithmetic.specs.Quotients.{withoutDigits, withDigits}
 use Rattle.arithmetic.specs.Marked.{withoutMark, withMark, marked, markedSum, markedProduct, markedQuotient, markedFraction}
 
 -- ---- the parts of Emin
@@ -39,25 +42,23 @@ unfolding magnitude
 no-magnitude f x h = rw h (omega arith)
 
 module _ {f : Format} (a : Admitted f) where
-  above-most : aboveZero (f .emin) < 2 ^ 28
+  pub above-most : aboveZero (f .emin) < 2 ^ 28
   above-most = let r = a .range in omega (arith, parts-above (f .emin), apart (f .emin))
 
   pub below-most : belowZero (f .emin) < 2 ^ 28
   below-most = let r = a .range in omega (arith, parts-below (f .emin), apart (f .emin))
 
 -- as the code has them, in the bounds of the wide format
-pub record Parts (f : Format) (up down : ℕ) : Type 0 where
-  pub up-is : up ≡ aboveZero (f .emin)
-  pub down-is : down ≡ belowZero (f .emin)
-  pub up-small : up < 2 ^ 28
-  pub down-small : down < 2 ^ 28
+pub record Part (part n : ℕ) : Type 0 where
+  pub is : n ≡ part
+  pub small : n < 2 ^ 28
 
-pub parts : {f : Format} {up down : ℕ} → Admitted f → SFits w32 (f .emin) → up ≡ aboveZero (toZ w32 (ofZ w32 (f .emin)))
-    → down ≡ belowZero (toZ w32 (ofZ w32 (f .emin))) → Parts f up down
-parts {f} {up} {down} a h k l =
-    let e : up ≡ aboveZero (f .emin) = k ∙ rw (back h) in
-    let g : down ≡ belowZero (f .emin) = l ∙ rw (back h) in
-    record { up-is = e; down-is = g; up-small = rw e (above-most a); down-small = rw g (below-most a) }
+module _ {f : Format} (a : Admitted f) (h : SFits w32 (f .emin)) {n : ℕ} where
+  pub above-part : n ≡ aboveZero (toZ w32 (ofZ w32 (f .emin))) → Part (aboveZero (f .emin)) n
+  above-part k = let e : n ≡ aboveZero (f .emin) = k ∙ rw (back h) in record { is = e; small = rw e (above-most a) }
+
+  pub below-part : n ≡ belowZero (toZ w32 (ofZ w32 (f .emin))) → Part (belowZero (f .emin)) n
+  below-part k = let e : n ≡ belowZero (f .emin) = k ∙ rw (back h) in record { is = e; small = rw e (below-most a) }
 
 module _ {f : Format} (a : Admitted f) where
   -- ---- a divisor, zero or not
@@ -132,9 +133,6 @@ pub digits-left : (n : ℕ) (g : Given Rounded) → withoutDigits (withDigits n 
 digits-left n (gives r) = refl
 digits-left n (refused k) = refl
 digits-left n (refusedAt k i) = refl
-
-pub counted-number : (f : Format) (d : Direction) (a b : Number) → withoutMark (withoutDigits (countedQuotient f d a b)) ≡ roundedQuotient f d a b
-counted-number f d a b = ap withoutMark (digits-left (quotientDigits f a b) (markedQuotient f d a b)) ∙ marked-number f _ _ _
 
 -- a mark that is true of the magnitude is that of the number
 mark-delivered : {f : Format} → Admitted f → (negative : Bool) {n : ℕ} → WideN (f .base) (f .digits) n → (N : ℤ) (D : ℕ) {t : Mark} → t ≡ mark (signed negative n) N D
@@ -235,63 +233,32 @@ module _ {q : Prepared} (u : Usable q) where
     unfolding value magnitude
     add-delivers h = sum-delivers _ _ (rw (ex, ey, scale-is) at h)
 
-    module _ {up down : ℕ} {r : Rounding} where
-      pub product-delivers : Parts (q .format) up down
-          → Rounds (q .scale .base) (q .scale .digits) d (xor (x .negative) (y .negative)) (sizeOf (q .scale .base) x * sizeOf (q .scale .base) y * q .scale .base ^ up) (q .scale .base ^ down) r
-          → Delivers (q .format) r (markedProduct (q .format) d a b)
-      unfolding roundedProduct magnitude
-      product-delivers e h = rw (← product-signed (q .format) a b) (rounds-delivers (rw (ex, ey, e .up-is, e .down-is, scale-is) at h))
+  module _ (d : Direction) (a b : Number) {w : Powers} {r : Rounding} where
+    pub product-delivers : w ≡ productPowers (q .format) a b
+        → Rounds (q .scale .base) (q .scale .digits) d (xor (a .negative) (b .negative)) (a .significand * b .significand * q .scale .base ^ w .up) (q .scale .base ^ w .down) r
+        → Delivers (q .format) r (markedProduct (q .format) d a b)
+    unfolding roundedProduct magnitude
+    product-delivers e h =
+        let β : ℕ = q .format .base in
+        let place : Number → ℕ = placeOf (q .format) in
+        let k = rw (e, scale-is, product-value β (a .significand) (b .significand) (place a) (place b) (aboveZero (q .format .emin))) at h in
+        rw (← product-signed (q .format) a b) (rounds-delivers k)
 
-      pub quotient-delivers : 1 ≤ b .significand → Parts (q .format) down up
-          → Rounds (q .scale .base) (q .scale .digits) d (xor (x .negative) (y .negative)) (sizeOf (q .scale .base) x * q .scale .base ^ up) (sizeOf (q .scale .base) y * q .scale .base ^ down) r
-          → Delivers (q .format) r (markedQuotient (q .format) d a b)
-      unfolding magnitude
-      quotient-delivers some e h = rw (divisor-some (known u .admits) d a b some) (rounds-delivers (rw (ex, ey, e .down-is, e .up-is, scale-is) at h))
+    pub quotient-delivers : 1 ≤ b .significand → w ≡ quotientPowers (q .format) a b
+        → Rounds (q .scale .base) (q .scale .digits) d (xor (a .negative) (b .negative)) (a .significand * q .scale .base ^ w .up) (b .significand * q .scale .base ^ w .down) r
+        → Delivers (q .format) r (markedQuotient (q .format) d a b)
+    unfolding magnitude
+    quotient-delivers some e h =
+        let β : ℕ = q .format .base in
+        let place : Number → ℕ = placeOf (q .format) in
+        let k = rw (e, scale-is, shifted-value β (a .significand) (place a) (belowZero (q .format .emin)), shifted-value β (b .significand) (place b) (aboveZero (q .format .emin))) at h in
+        rw (divisor-some (known u .admits) d a b some) (rounds-delivers k)
 
-  pub fraction-delivers : (d : Direction) (n : ℤ) {m up down k : ℕ} {negative : Bool} {r : Rounding} → 1 ≤ m → Parts (q .format) down up → negative ≡ isNegative n → k ≡ natAbs n
+  pub significand-small : (a : Number) → member (q .format) a ≡ true → a .significand < q .scale .bound
+  significand-small a m = omega (arith, members a (known u .admits) m .significand-high, ap (λ (s : Scale). s .bound) scale-is)
+
+  pub fraction-delivers : (d : Direction) (n : ℤ) {m up down k : ℕ} {negative : Bool} {r : Rounding} → 1 ≤ m → Part (aboveZero (q .format .emin)) down → Part (belowZero (q .format .emin)) up → negative ≡ isNegative n → k ≡ natAbs n
       → Rounds (q .scale .base) (q .scale .digits) d negative (k * q .scale .base ^ up) (m * q .scale .base ^ down) r
       → Delivers (q .format) r (markedFraction (q .format) d n m)
-  fraction-delivers d n some e es ek h =
-      rw (denominator-some (q .format) d n some, ← fraction-signed (q .format) n) (rounds-delivers (rw (es, ek, e .down-is, e .up-is, scale-is) at h))
-
--- ---- two numbers in the order of their exponents
-pub zero-swap : (d : Direction) (s t : Bool) → zeroSign d s t ≡ zeroSign d t s
-zero-swap d true true = refl
-zero-swap d true false = refl
-zero-swap d false true = refl
-zero-swap d false false = refl
-
-pub record Aligned (q : Prepared) (a b high low : Number) : Type 0 where
-  pub operands : Operands q high low
-  pub order : Upto (low .exponent) (high .exponent)
-  pub zero : (d : Direction) → zeroSign d (high .negative) (low .negative) ≡ zeroSign d (a .negative) (b .negative)
-  pub sum : (d : Direction) → markedSum (q .format) d high low ≡ markedSum (q .format) d a b
-
-pub aligned : {q : Prepared} {a b : Number} → Operands q a b → (t : Bool) → ltZ (a .exponent) (b .exponent) ≡ t → Aligned q a b (cond t b a) (cond t a b)
-aligned {q} {a} {b} o true e =
-    record {
-      operands = record { usable = o .usable; first = o .second; second = o .first };
-      order = let l = lt-true (a .exponent) (b .exponent) e in omega arith;
-      zero = λ d. zero-swap d (b .negative) (a .negative);
-      sum = λ d. rw (zero-swap d (b .negative) (a .negative), +ℤ-comm (value (q .format) b) (value (q .format) a));
-    }
-aligned {q} {a} {b} o false e = record { operands = o; order = lt-false (a .exponent) (b .exponent) e; zero = λ d. refl; sum = λ d. refl }
-
--- the place of the higher one is that of the lower one and the distance between their exponents
-pub place-apart : {f : Format} {high low : Number} → Member f high → Member f low → Upto (low .exponent) (high .exponent)
-    → placeOf f low + natAbs (high .exponent -ℤ low .exponent) ≡ placeOf f high
-place-apart {f} {high} {low} i j l =
-    omega (
-      arith,
-      size-parts (high .exponent -ℤ low .exponent),
-      diff-parts (high .exponent) (low .exponent),
-      apart (high .exponent -ℤ low .exponent),
-      size-parts (high .exponent -ℤ f .emin),
-      diff-parts (high .exponent) (f .emin),
-      apart (high .exponent -ℤ f .emin),
-      size-parts (low .exponent -ℤ f .emin),
-      diff-parts (low .exponent) (f .emin),
-      apart (low .exponent -ℤ f .emin),
-      i .exponent-low,
-      j .exponent-low,
-    )
+  fraction-delivers d n some e g es ek h =
+      rw (denominator-some (q .format) d n some, ← fraction-signed (q .format) n) (rounds-delivers (rw (es, ek, g .is, e .is, scale-is) at h))

@@ -4,10 +4,11 @@ use Rattle.theory.specs.QuotientDigits.{digitsTaken, lacking}
 use Rattle.theory.proofs.Words.{_or_}
 use Rattle.format.proofs.Signed.{Upto, apart, lt-true, lt-false}
 use Rattle.wide.specs.Quotient.{digitsOf}
-use Rattle.arithmetic.specs.Operands.{wideOf}
+use Rattle.arithmetic.specs.declared.operands.Powers.{Powers}
+use Rattle.arithmetic.specs.Operands.{quotientPowers}
 use Rattle.arithmetic.specs.Quotients.{fullSignificand, fullExponent, firstDigitPlace, quotientDigits}
-use Rattle.arithmetic.proofs.Prelude.{Format, Prepared, Number, Operands, Wide, known, members, aboveZero, belowZero, placeOf, Member, above, below, size-parts, diff-parts}
-use Rattle.arithmetic.proofs.Prepared.{Parts, parts-above, parts-below, scale-is}
+use Rattle.arithmetic.proofs.Prelude.{Format, Prepared, Number, Operands, known, members, aboveZero, belowZero, placeOf, Member, above, below, size-parts, diff-parts}
+use Rattle.arithmetic.proofs.Prepared.{parts-above, parts-below, scale-is}
 
 -- the places above Emin of both sides: the first digit stands as many places above Emin as the first has more than the second
 abbrev pub highPlace : Format → (a b : Number) → ℕ
@@ -60,9 +61,9 @@ module _ {f : Format} {a b : Number} (i : Member f a) (j : Member f b) where
           let e = places-apart (lt-false (firstDigitPlace f a b) (f .emin) h) in
           rw (le-ltb (highPlace f a b) (lowPlace f a b) (omega arith)) (ap taken (omega arith))
 
--- as the code has them: from the operands in the wide format
-pub counted-digits : {q : Prepared} {a b : Number} → Operands q a b → {x y : Wide} {up down n : ℕ} → x ≡ wideOf (q .format) a → y ≡ wideOf (q .format) b → Parts (q .format) down up
-    → n ≡ digitsOf (q .scale .base) (q .scale .digits) (x .significand) (y .significand) (x .place + up) (y .place + down) → n ≡ quotientDigits (q .format) a b
-counted-digits {q} {a} {b} o ex ey e h =
+-- as the code has them: from the powers beside the quotient
+pub counted-digits : {q : Prepared} {a b : Number} → Operands q a b → {w : Powers} {n : ℕ} → w ≡ quotientPowers (q .format) a b
+    → n ≡ digitsOf (q .scale .base) (q .scale .digits) (a .significand) (b .significand) (w .up) (w .down) → n ≡ quotientDigits (q .format) a b
+counted-digits {q} {a} {b} o e h =
     let ok = known (o .usable) .admits in
-    (rw (ex, ey, e .down-is, e .up-is, scale-is (o .usable)) at h) ∙ digits-places (members a ok (o .first)) (members b ok (o .second))
+    (rw (e, scale-is (o .usable)) at h) ∙ digits-places (members a ok (o .first)) (members b ok (o .second))

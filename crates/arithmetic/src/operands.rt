@@ -17,6 +17,12 @@ ghost use Rattle.wide.specs.Operand.{sizeOf};
 ghost use Rattle.arithmetic.specs.Operands.{wideOf};
 ghost use Rattle.arithmetic.specs.Marked.{roundedGiven, withMark, withoutMark};
 
+// The powers of the base beside an exact result: it is taken base ^ up times and divided by base ^ down.
+pub struct Powers {
+    pub up: u32,
+    pub down: u32,
+}
+
 // x, with the place that its exponent has above emin.
 pub fn wide_of(prepared: Prepared, x: Number) -> Wide
     requires { ⌜ Operand prepared x ⌝ }

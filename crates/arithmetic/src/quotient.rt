@@ -1,11 +1,10 @@
 // The quotient, and how many of its digits were worked out.
 use crate::CountedQuotient;
 use crate::QuotientAnswer;
-use crate::Rounded;
 use crate::RoundedAnswer;
+use crate::operands::Powers;
 use crate::operands::deliver_wide;
 use crate::operands::unmarked;
-use crate::operands::wide_of;
 use format::Format;
 use format::Preparation;
 use format::Prepared;
@@ -18,13 +17,15 @@ use number::checks::with_direction;
 use number::checks::with_number;
 use number::exponents::above_zero;
 use number::exponents::below_zero;
+use number::exponents::place_of;
 use theory::Direction;
 ghost use mathlib.Core.Path.{_≡_};
 ghost use Rattle.number.specs.Answers.{numberGiven};
 ghost use Rattle.number.specs.Checks.{Operands};
+ghost use Rattle.arithmetic.specs.Operands.{quotientPowers};
 ghost use Rattle.arithmetic.specs.Operations.{roundedQuotient};
 ghost use Rattle.arithmetic.specs.Marked.{roundedGiven};
-ghost use Rattle.arithmetic.specs.Quotients.{quotientGiven, withDigits, withoutDigits, countedQuotient, quotientAnswer};
+ghost use Rattle.arithmetic.specs.Quotients.{quotientGiven, withDigits, countedQuotient, quotientAnswer};
 
 // The same answer, with the number of digits.
 fn with_digits(answer: RoundedAnswer, digits: u32) -> QuotientAnswer
@@ -44,20 +45,15 @@ fn with_digits(answer: RoundedAnswer, digits: u32) -> QuotientAnswer
     }
 }
 
-// The same answer without it.
-pub fn without_digits(answer: QuotientAnswer) -> RoundedAnswer
-    ensures { λ r. ⌜ roundedGiven r ≡ withoutDigits (quotientGiven answer) ⌝ }
+// The powers beside the quotient of the significands.
+fn quotient_powers(prepared: Prepared, a: Number, b: Number) -> Powers
+    requires { ⌜ Operands prepared a b ⌝ }
+    ensures { λ r. ⌜ r ≡ quotientPowers (prepared .format) a b ⌝ }
 {
-    match answer {
-        QuotientAnswer::Value(quotient) => {
-            let number = quotient.number;
-            let mark = quotient.mark;
-            RoundedAnswer::Value(Rounded {
-                number: number,
-                mark: mark,
-            })
-        }
-        QuotientAnswer::Refused(why) => RoundedAnswer::Refused(why),
+    let emin = prepared.format.emin;
+    Powers {
+        up: place_of(prepared, a) + below_zero(emin),
+        down: place_of(prepared, b) + above_zero(emin),
     }
 }
 
@@ -75,21 +71,44 @@ fn counted_quotient(
         return QuotientAnswer::Refused(Refusal::DivisorZero);
     }
     let scale = prepared.scale;
-    let x = wide_of(prepared, a);
-    let y = wide_of(prepared, b);
-    let up = below_zero(prepared.format.emin);
-    let down = above_zero(prepared.format.emin);
-    let counted = wide::quotient::quotient(scale, direction, x, y, up, down);
+    let negative = a.negative != b.negative;
+    let w = quotient_powers(prepared, a, b);
+    let counted = wide::quotient::quotient(
+        scale,
+        direction,
+        negative,
+        a.significand,
+        b.significand,
+        w.up,
+        w.down,
+    );
     let rounding = counted.rounding;
     with_digits(deliver_wide(prepared, rounding), counted.digits)
 }
 
-// The same without the mark and the digits.
+// The same without the mark and the digits. It calls the wide quotient itself, as `multiply` the wide product.
 pub fn divide(prepared: Prepared, direction: Direction, a: Number, b: Number) -> NumberAnswer
     requires { ⌜ Operands prepared a b ⌝ }
     ensures { λ r. ⌜ numberGiven r ≡ roundedQuotient (prepared .format) direction a b ⌝ }
 {
-    unmarked(without_digits(counted_quotient(prepared, direction, a, b)))
+    let divisor = b.significand;
+    if divisor == 0 {
+        return NumberAnswer::Refused(Refusal::DivisorZero);
+    }
+    let scale = prepared.scale;
+    let negative = a.negative != b.negative;
+    let w = quotient_powers(prepared, a, b);
+    let counted = wide::quotient::quotient(
+        scale,
+        direction,
+        negative,
+        a.significand,
+        divisor,
+        w.up,
+        w.down,
+    );
+    let rounding = counted.rounding;
+    unmarked(deliver_wide(prepared, rounding))
 }
 
 // a / b. Refuses 1, 2, 3, 4, 5.

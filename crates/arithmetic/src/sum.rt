@@ -2,7 +2,6 @@
 use crate::RoundedAnswer;
 use crate::operands::deliver_wide;
 use crate::operands::unmarked;
-use crate::operands::wide_of;
 use format::Format;
 use format::Preparation;
 use format::Prepared;
@@ -13,6 +12,7 @@ use number::Number;
 use number::NumberAnswer;
 use number::checks::with_direction;
 use number::checks::with_number;
+use number::exponents::place_of;
 use number::signs::with_sign;
 use rounding::Rounding;
 use rounding::Wide;
@@ -60,27 +60,6 @@ fn zero_sign(direction: Direction, a: bool, b: bool) -> bool
     }
 }
 
-// A result; if it is zero, with this sign.
-fn with_zero_sign(result: Rounding, none: bool) -> Rounding
-    ensures { λ r. ⌜ r ≡ zeroSigned none result ⌝ }
-{
-    let wide = result.wide;
-    let mark = result.mark;
-    let negative = if wide.significand == 0 {
-        none
-    } else {
-        wide.negative
-    };
-    Rounding {
-        wide: Wide {
-            negative: negative,
-            significand: wide.significand,
-            place: wide.place,
-        },
-        mark: mark,
-    }
-}
-
 // a + b, in a format that was prepared. The alignment distance is the difference of the two exponents. Refuses 5.
 pub fn marked_sum(prepared: Prepared, direction: Direction, a: Number, b: Number) -> RoundedAnswer
     requires { ⌜ Operands prepared a b ⌝ }
@@ -90,16 +69,29 @@ pub fn marked_sum(prepared: Prepared, direction: Direction, a: Number, b: Number
     let high = select(turned, b, a);
     let low = select(turned, a, b);
     let gap = distance(low.exponent, high.exponent);
-    let y = wide_of(prepared, low);
-    let x = Wide {
-        negative: high.negative,
-        significand: high.significand,
-        place: y.place + gap,
-    };
+    let place = place_of(prepared, low);
     let scale = prepared.scale;
-    let sum = aligned_sum(scale, direction, x, y, gap);
-    let none = zero_sign(direction, a.negative, b.negative);
-    deliver_wide(prepared, with_zero_sign(sum, none))
+    let sum = aligned_sum(
+        scale,
+        direction,
+        high.negative,
+        high.significand,
+        low.negative,
+        low.significand,
+        place,
+        gap,
+    );
+    let wide = sum.wide;
+    let mark = sum.mark;
+    if wide.significand == 0 {
+        let zero = Wide {
+            negative: zero_sign(direction, a.negative, b.negative),
+            significand: 0,
+            place: 0,
+        };
+        return deliver_wide(prepared, Rounding { wide: zero, mark });
+    }
+    deliver_wide(prepared, sum)
 }
 
 // a - b, in a format that was prepared. Refuses 5.

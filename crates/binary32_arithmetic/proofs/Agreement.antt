@@ -16,9 +16,7 @@ use Rattle.binary32.proofs.StandardRound.{answered}
 use Rattle.binary32.proofs.StandardSum.{ieee-sum, ieee-difference}
 use Rattle.binary32.proofs.StandardProduct.{ieee-product, ieee-quotient}
 use Rattle.binary32.proofs.StandardPatterns.{patterned, patterned-written}
-use Rattle.binary32_arithmetic.specs.declared.Operation.{Operation}
-use Rattle.binary32_arithmetic.specs.declared.Operation.the-variants.{Sum, Difference, Product, Quotient}
-use Rattle.binary32_arithmetic.specs.Calls.{roundedBy, onPatterns, patternCall}
+use Rattle.binary32_arithmetic.specs.Calls.{Operation, Sum, Difference, Product, Quotient, roundedBy, onPatterns, patternCall}
 
 module _ (a b : ℕ) (ha : finite a ≡ true) (hb : finite b ≡ true) where
   abbrev x : Float

@@ -24,10 +24,8 @@ use Rattle.arithmetic.proofs.Results.{sum-member, difference-member, product-me
 use Rattle.binary32.specs.Patterns.{finite, numberRead, patternRead, answerWritten}
 use Rattle.binary32.proofs.Fields.{binary32-admitted, binary32-limits}
 use Rattle.binary32.proofs.RoundTrips.{Reads, reads, read-member, written-read}
-use Rattle.binary32_arithmetic.specs.declared.Operation.{Operation}
-use Rattle.binary32_arithmetic.specs.declared.Operation.the-variants.{Sum, Difference, Product, Quotient}
+use Rattle.binary32_arithmetic.specs.Calls.{Operation, Sum, Difference, Product, Quotient, roundedBy, onPatterns, patternCall, callRead}
 use Rattle.binary32_arithmetic.specs.declared.CallRead.the-variants.{Ready, Refused}
-use Rattle.binary32_arithmetic.specs.Calls.{roundedBy, onPatterns, patternCall, callRead}
 use Rattle.binary32_arithmetic.proofs.ExactSums.{pattern-member}
 
 -- the call on numbers of format 2

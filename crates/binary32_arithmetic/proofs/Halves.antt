@@ -23,8 +23,7 @@ use Rattle.binary32.specs.Patterns.{fieldOf, finite, magnitudeRead, numberRead,
 use Rattle.binary32.proofs.Fields.{binary32-limits, endless-field}
 use Rattle.binary32.proofs.RoundTrips.{read-made, read-magnitude}
 use Rattle.binary32.proofs.PatternOrder.{magnitude-most}
-use Rattle.binary32_arithmetic.specs.declared.Operation.the-variants.{Sum}
-use Rattle.binary32_arithmetic.specs.Calls.{onPatterns}
+use Rattle.binary32_arithmetic.specs.Calls.{Sum, onPatterns}
 use Rattle.binary32_arithmetic.specs.Slices.{passes}
 
 -- ---- a value that is not above the greatest number is not too large when it is rounded

@@ -6,14 +6,13 @@ use Rattle.theory.specs.declared.Direction.{Direction}
 use Rattle.theory.proofs.Lists.{first-is, first-none}
 use Rattle.format.specs.Given.{Given, gives, refused, refusedAt}
 use Rattle.format.proofs.GivenLaws.{gives-not-refused, gives-not-refused-at}
-use Rattle.binary32_arithmetic.specs.declared.Operation.the-variants.{Sum}
+use Rattle.binary32_arithmetic.specs.Calls.{Sum, onPatterns}
 use Rattle.theory.specs.Tests.{_and_, unless}
 use Rattle.format.specs.Published.{binary32}
 use Rattle.arithmetic.specs.Operations.{roundedSum}
 use Rattle.arithmetic.specs.Marked.{markedSum, withoutMark}
 use Rattle.arithmetic.proofs.Prepared.{marked-number}
 use Rattle.binary32.specs.Patterns.{finite, numberRead, answerWritten}
-use Rattle.binary32_arithmetic.specs.Calls.{onPatterns}
 use Rattle.theory.specs.declared.Mark.{Mark}
 use Rattle.theory.specs.declared.Mark.the-variants.{Exact, Low, High}
 use Rattle.theory.specs.Marks.{inexact}

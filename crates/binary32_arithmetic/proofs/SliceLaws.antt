@@ -19,8 +19,7 @@ use Rattle.arithmetic.specs.Outcomes.{Outcome, given, too-large}
 use Rattle.arithmetic.proofs.Outcome.{roundedZ-outcome}
 use Rattle.binary32.proofs.Fields.{binary32-limits}
 use Rattle.binary32.specs.Patterns.{finite, numberRead, patternValue, patternOf, answerWritten}
-use Rattle.binary32_arithmetic.specs.declared.Operation.the-variants.{Sum}
-use Rattle.binary32_arithmetic.specs.Calls.{onPatterns}
+use Rattle.binary32_arithmetic.specs.Calls.{Sum, onPatterns}
 use Rattle.binary32_arithmetic.specs.Slices.{isRefused, answerAt, written, entries, firstRefused, sums, slicesAnswer, markedEntry, inexactIn, inexactEntries, entryOf, Sums, Inexact, none, exact, more, SameLengths, Ends, lengths-differ, no-direction, refused-entry, all-written}
 use Rattle.theory.proofs.Integers.{times-one}
 use Rattle.theory.proofs.Marks.{inexact-counted}

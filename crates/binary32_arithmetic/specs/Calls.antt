@@ -13,10 +13,14 @@ use Rattle.arithmetic.specs.Operations.{roundedSum, roundedDifference, roundedP
 use Rattle.binary32.specs.Patterns.{finite, numberRead, answerWritten}
 use Rattle.binary32_arithmetic.specs.declared.CallRead.{CallRead}
 use Rattle.binary32_arithmetic.specs.declared.CallRead.the-variants.{Ready, Refused}
-use Rattle.binary32_arithmetic.specs.declared.Operation.{Operation}
-use Rattle.binary32_arithmetic.specs.declared.Operation.the-variants.{Sum, Difference, Product, Quotient}
 
--- an operation of a format
+-- the four operations, each in a format
+pub data Operation : Type 0 where
+  Sum : Operation
+  Difference : Operation
+  Product : Operation
+  Quotient : Operation
+
 abbrev pub roundedBy : Operation → Format → Direction → (a b : Number) → Given Number
 roundedBy Sum f d a b = roundedSum f d a b
 roundedBy Difference f d a b = roundedDifference f d a b

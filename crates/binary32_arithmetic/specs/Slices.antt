@@ -17,13 +17,12 @@ use Rattle.format.specs.Refusals.{refusalNumber}
 use Rattle.arithmetic.specs.declared.Rounded.{Rounded}
 use Rattle.arithmetic.specs.Marked.{markedSum, withoutMark}
 use Rattle.binary32.specs.Patterns.{finite, numberRead, patternValue, answerWritten}
-use Rattle.binary32_arithmetic.specs.declared.Operation.the-variants.{Sum}
+use Rattle.binary32_arithmetic.specs.Calls.{Sum, onPatterns}
 use Rattle.binary32_arithmetic.specs.declared.SliceAnswer.{SliceAnswer}
 use Rattle.binary32_arithmetic.specs.declared.SliceAnswer.the-variants as answer
 use Rattle.binary32_arithmetic.specs.declared.Examined.{Examined}
 use Rattle.binary32_arithmetic.specs.declared.Examined.the-variants as examined
 use Rattle.binary32_arithmetic.specs.declared.WrittenEntry.{WrittenEntry}
-use Rattle.binary32_arithmetic.specs.Calls.{onPatterns}
 
 -- the answer of sum_slices in the papers' terms
 abbrev pub slicesGiven : SliceAnswer → Given ℕ

@@ -9,14 +9,6 @@ use number::Number;
 use rounding::Wide;
 use theory::Direction;
 
-// The four operations, for what is said of all of them.
-pub enum Operation {
-    Sum,
-    Difference,
-    Product,
-    Quotient,
-}
-
 // What a call on two patterns is given: its direction and the numbers of the patterns, or why it is refused.
 pub enum CallRead {
     Ready(Direction, Number, Number),

@@ -4,7 +4,7 @@ use arithmetic::product::multiply;
 use arithmetic::quotient::divide;
 use arithmetic::sum::add;
 use arithmetic::sum::subtract;
-use binary32::finite::is_finite;
+use binary32::finite::are_finite;
 use binary32::patterns::pattern_of;
 use binary32::patterns::read_finite;
 use binary32::prepared::prepared_binary32;
@@ -21,8 +21,7 @@ ghost use Rattle.number.specs.declared.NumberAnswer.the-variants.{Value};
 ghost use Rattle.number.specs.Answers.{numberGiven, patternGiven};
 ghost use Rattle.number.specs.Numbers.{member};
 ghost use Rattle.binary32.specs.Patterns.{answerWritten};
-ghost use Rattle.binary32_arithmetic.specs.Calls.{callRead, patternCall};
-ghost use Rattle.binary32_arithmetic.specs.declared.Operation.the-variants.{Sum, Difference, Product, Quotient};
+ghost use Rattle.binary32_arithmetic.specs.Calls.{callRead, patternCall, Sum, Difference, Product, Quotient};
 
 // The direction and the patterns of a call, examined and read. Refuses 2, 9.
 fn read_call(direction: u32, a: u32, b: u32) -> CallRead
@@ -31,10 +30,7 @@ fn read_call(direction: u32, a: u32, b: u32) -> CallRead
     if !is_direction(direction) {
         return CallRead::Refused(Refusal::NoSuchDirection);
     }
-    if !is_finite(a) {
-        return CallRead::Refused(Refusal::NotFinite);
-    }
-    if !is_finite(b) {
+    if !are_finite(a, b) {
         return CallRead::Refused(Refusal::NotFinite);
     }
     CallRead::Ready(direction_of(direction), read_finite(a), read_finite(b))

@@ -5,7 +5,7 @@ use crate::WrittenEntry;
 use arithmetic::RoundedAnswer;
 use arithmetic::sum::add;
 use arithmetic::sum::marked_sum;
-use binary32::finite::is_finite;
+use binary32::finite::are_finite;
 use binary32::patterns::pattern_of;
 use binary32::patterns::read_finite;
 use binary32::prepared::prepared_binary32;
@@ -30,8 +30,7 @@ ghost use Rattle.number.specs.Numbers.{member};
 ghost use Rattle.arithmetic.specs.declared.Rounded.{Rounded};
 ghost use Rattle.arithmetic.specs.declared.RoundedAnswer.the-variants.{Value};
 ghost use Rattle.arithmetic.specs.Marked.{roundedGiven};
-ghost use Rattle.binary32_arithmetic.specs.Calls.{onPatterns};
-ghost use Rattle.binary32_arithmetic.specs.declared.Operation.the-variants.{Sum};
+ghost use Rattle.binary32_arithmetic.specs.Calls.{onPatterns, Sum};
 ghost use Rattle.binary32_arithmetic.specs.Slices.{slicesGiven, examinedGiven, passes, entries, firstRefused, sums, entryWritten, markedEntry, inexactEntries, slicesAnswer, slicesWritten};
 
 // Is the pattern's magnitude at most half the greatest number? Its exponent field is below 254.
@@ -57,10 +56,7 @@ fn examine(direction: Direction, a: u32, b: u32) -> Verdict
     if are_halves(a, b) {
         return Verdict::Passed;
     }
-    if !is_finite(a) {
-        return Verdict::Refused(Refusal::NotFinite);
-    }
-    if !is_finite(b) {
+    if !are_finite(a, b) {
         return Verdict::Refused(Refusal::NotFinite);
     }
     match add(
@@ -113,10 +109,7 @@ fn sum_entry(direction: Direction, a: u32, b: u32) -> WrittenEntry
         pattern: 0,
         inexact: 0,
     };
-    if !is_finite(a) {
-        return none;
-    }
-    if !is_finite(b) {
+    if !are_finite(a, b) {
         return none;
     }
     write_entry(marked_sum(

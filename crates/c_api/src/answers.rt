@@ -131,9 +131,9 @@ pub fn number_in(x: CNumber) -> Number
     ensures { λ r. ⌜ r ≡ numberIn x ⌝ }
 {
     let e = x.exponent;
-    let m = x.significand;
+    let given = x.significand;
     let significand = if x.negative <= 1 {
-        m
+        given
     } else {
         18446744073709551615
     };

@@ -97,7 +97,13 @@ fn drop_digits(scale: Scale, n: TwoWords, divisor: Significand, j: u32, place: u
             high: n.high,
             low: n.low,
         };
-        return drop_words(made, words, j, place);
+        let dropped = drop_words(made, words, j, place);
+        let location = dropped.location;
+        return Cut {
+            steps: dropped.steps,
+            place: dropped.place,
+            location: location,
+        };
     }
     let parts = split(scale, n, divisor, j);
     let steps = parts.quotient;

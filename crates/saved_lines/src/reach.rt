@@ -5,7 +5,7 @@ use crate::Sought;
 use crate::checks::check_lines;
 use crate::distances::is_nearer;
 use crate::search::first_passing;
-use binary32::finite::is_finite;
+use binary32::finite::are_finite;
 use format::Refusal;
 ghost use mathlib.Core.Path.{_≡_};
 ghost use mathlib.Core.Bool.{true};
@@ -24,15 +24,6 @@ pub struct Range {
     pub first: usize,
     pub split: usize,
     pub end: usize,
-}
-
-fn are_finite(query: u32, distance: u32) -> bool
-    ensures { λ r. ⌜ r ≡ finite query and finite distance ⌝ }
-{
-    if !is_finite(query) {
-        return false;
-    }
-    is_finite(distance)
 }
 
 // The lines found stand side by side: from the first that reaches the query on, up to the first beyond it.

@@ -20,8 +20,7 @@ use Rattle.arithmetic.specs.declared.CountedQuotient.{CountedQuotient}
 use Rattle.arithmetic.specs.Quotients.{withoutDigits, quotientAnswer}
 use Rattle.fast_two_sum.specs.declared.Steps.{Steps}
 use Rattle.fast_two_sum.specs.Calls.{fastTwoSum}
-use Rattle.binary32_arithmetic.specs.declared.Operation.the-variants.{Sum, Difference, Product, Quotient}
-use Rattle.binary32_arithmetic.specs.Calls.{patternCall}
+use Rattle.binary32_arithmetic.specs.Calls.{Sum, Difference, Product, Quotient, patternCall}
 use Rattle.decimal32.specs.Patterns.{decimal32Read, decimal32Written}
 
 -- ---- answers that are no numbers, as numbers

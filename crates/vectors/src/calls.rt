@@ -1,9 +1,9 @@
 // The calls of the rows.
 use arithmetic::QuotientAnswer;
+use arithmetic::Rounded;
 use arithmetic::RoundedAnswer;
 use arithmetic::operands::unmarked;
 use arithmetic::quotient::quotient;
-use arithmetic::quotient::without_digits;
 use binary32_arithmetic::operations;
 use decimal32::reading::read_decimal32;
 use decimal32::writing::write_decimal32;
@@ -22,7 +22,7 @@ ghost use mathlib.Core.Bool.{true, false};
 ghost use Rattle.number.specs.Answers.{numberGiven, orderGiven, patternGiven};
 ghost use Rattle.theory.specs.Marks.{inexact};
 ghost use Rattle.arithmetic.specs.Marked.{roundedGiven};
-ghost use Rattle.arithmetic.specs.Quotients.{quotientGiven};
+ghost use Rattle.arithmetic.specs.Quotients.{quotientGiven, withoutDigits};
 ghost use Rattle.fast_two_sum.specs.Answers.{stepsGiven};
 ghost use Rattle.vectors.specs.Calls.{whole, wholeOrder, patternNumber, inexactWhole, digitsWhole, firstOfSteps, answerOf};
 
@@ -34,6 +34,23 @@ pub fn whole(negative: bool, n: Significand) -> Number
         negative: negative,
         significand: n,
         exponent: 0,
+    }
+}
+
+// A quotient without the number of its digits.
+fn without_digits(answer: QuotientAnswer) -> RoundedAnswer
+    ensures { λ r. ⌜ roundedGiven r ≡ withoutDigits (quotientGiven answer) ⌝ }
+{
+    match answer {
+        QuotientAnswer::Value(quotient) => {
+            let number = quotient.number;
+            let mark = quotient.mark;
+            RoundedAnswer::Value(Rounded {
+                number: number,
+                mark: mark,
+            })
+        }
+        QuotientAnswer::Refused(why) => RoundedAnswer::Refused(why),
     }
 }
 

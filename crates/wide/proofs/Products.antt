@@ -1,11 +1,12 @@
--- The product's exact value and its bounds.
+-- Exact values with their powers taken together, and a bound on products.
 use Rattle.theory.proofs.Prelude.{ℕ, _<_, _+_, _^_, _*_, _≡_, mul-le-mul, arith}
 use Rattle.rounding.proofs.Prelude.{pow-add}
-use Rattle.rounding.specs.declared.Wide.{Wide}
-use Rattle.wide.specs.Operand.{sizeOf}
 
 pub product-small : {B a b : ℕ} → a < B → b < B → a * b < B * B
 product-small l m = omega (arith, mul-le-mul l m)
 
-pub product-value : (β : ℕ) (x y : Wide) (up : ℕ) → x .significand * y .significand * β ^ (x .place + y .place + up) ≡ sizeOf β x * sizeOf β y * β ^ up
-product-value β x y up = rw (pow-add β (x .place + y .place) up, pow-add β (x .place) (y .place)) (omega arith)
+pub product-value : (β m n i j up : ℕ) → m * n * β ^ (i + j + up) ≡ m * β ^ i * (n * β ^ j) * β ^ up
+product-value β m n i j up = rw (pow-add β (i + j) up, pow-add β i j) (omega arith)
+
+pub shifted-value : (β m i up : ℕ) → m * β ^ (i + up) ≡ m * β ^ i * β ^ up
+shifted-value β m i up = rw (pow-add β i up) (omega arith)

@@ -141,22 +141,20 @@ module _ {s : Scale} (h : Scaled s) where
           (rw (pow-zero, unit) (omega arith)) (under-most e l)
 
 -- the shifts go to the other side
-pub quotient-exact : {s : Scale} → Scaled s → {m n a b i j : ℕ} (k l up down : ℕ) → Shifted s m a i → Shifted s n b j → 1 ≤ n
-    → cutOf (s .base) (s .digits) (a * s .base ^ (k + up + j)) (b * s .base ^ (l + down + i))
-    ≡ cutOf (s .base) (s .digits) (m * s .base ^ k * s .base ^ up) (n * s .base ^ l * s .base ^ down)
-quotient-exact {s} h {m} {n} {a} {b} {i} {j} k l up down sa sb some =
+pub quotient-exact : {s : Scale} → Scaled s → {m n a b i j : ℕ} (up down : ℕ) → Shifted s m a i → Shifted s n b j → 1 ≤ n
+    → cutOf (s .base) (s .digits) (a * s .base ^ (up + j)) (b * s .base ^ (down + i)) ≡ cutOf (s .base) (s .digits) (m * s .base ^ up) (n * s .base ^ down)
+quotient-exact {s} h {m} {n} {a} {b} {i} {j} up down sa sb some =
     ap₂ (cutOf β (s .digits)) numerator denominator
-    ∙ cut-common (positional h) (m * β ^ k * β ^ up) (n * β ^ l * β ^ down) (β ^ (i + j))
-    (mul-pos (mul-pos some (pow-pos (h .base-least) l)) (pow-pos (h .base-least) down)) (pow-pos (h .base-least) (i + j))
+    ∙ cut-common (positional h) (m * β ^ up) (n * β ^ down) (β ^ (i + j)) (mul-pos some (pow-pos (h .base-least) down)) (pow-pos (h .base-least) (i + j))
   where
     β : ℕ
     β = s .base
 
-    numerator : a * β ^ (k + up + j) ≡ m * β ^ k * β ^ up * β ^ (i + j)
-    numerator = rw (sa .is, pow-add β (k + up) j, pow-add β k up, pow-add β i j) (omega arith)
+    numerator : a * β ^ (up + j) ≡ m * β ^ up * β ^ (i + j)
+    numerator = rw (sa .is, pow-add β up j, pow-add β i j) (omega arith)
 
-    denominator : b * β ^ (l + down + i) ≡ n * β ^ l * β ^ down * β ^ (i + j)
-    denominator = rw (sb .is, pow-add β (l + down) i, pow-add β l down, pow-add β i j) (omega arith)
+    denominator : b * β ^ (down + i) ≡ n * β ^ down * β ^ (i + j)
+    denominator = rw (sb .is, pow-add β down i, pow-add β i j) (omega arith)
 
 -- ---- the digits that are worked out
 module _ {s : Scale} (h : Scaled s) where

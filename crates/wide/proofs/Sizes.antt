@@ -10,15 +10,15 @@ module _ {β p : ℕ} (ok : Positional β p) where
   pub greatest-below : (k : ℕ) → (β ^ p - 1) * β ^ k < β ^ (p + k)
   greatest-below k = rw pow-add (mul-lt-mul-of-pos-right (omega (arith, pow-pos (ok .base) p)) (pow-pos (ok .base) k))
 
-  size-most : (x : Wide) {k : ℕ} → Canonical β p (x .significand) (x .place) → x .place ≤ k → sizeOf β x ≤ (β ^ p - 1) * β ^ k
-  size-most x h l = mul-le-mul (omega (arith, h .small)) (pow-mono (ok .base) l)
+  -- a significand times a power
+  pub shifted-size : {m i k : ℕ} → m < β ^ p → i ≤ k → m * β ^ i ≤ (β ^ p - 1) * β ^ k
+  shifted-size h l = mul-le-mul (omega (arith, h)) (pow-mono (ok .base) l)
 
-  -- a number times a power
-  pub shifted-size : (x : Wide) → Canonical β p (x .significand) (x .place) → (i k : ℕ) → x .place + i ≤ k → sizeOf β x * β ^ i ≤ (β ^ p - 1) * β ^ k
-  shifted-size x h i k l =
-      let digits : x .significand ≤ β ^ p - 1 = omega (arith, h .small) in
-      let power : β ^ (x .place + i) ≤ β ^ k = pow-mono (ok .base) l in
-      omega (arith, ap (λ (v : ℕ). x .significand * v) (pow-add β (x .place) i), mul-le-mul digits power)
+  -- two significands times a power
+  pub product-size : {a b : ℕ} (up : ℕ) {k : ℕ} → a < β ^ p → b < β ^ p → p + up ≤ k → a * b * β ^ up ≤ (β ^ p - 1) * β ^ k
+  product-size {a} {b} up ha hb l =
+      let most : b ≤ β ^ p = omega (arith, hb) in
+      le-trans (omega (arith, mul-le-mul-left (a * β ^ up) most, ap (λ (v : ℕ). a * v) (pow-add β p up))) (shifted-size {i = p + up} ha l)
 
   -- a number of 32 bits times a power
   pub fraction-size : (n i : ℕ) → n < 2 ^ 32 → n * β ^ i ≤ (β ^ p - 1) * β ^ (32 + i)
@@ -35,15 +35,7 @@ module _ {β p : ℕ} (ok : Positional β p) where
         omega (
           arith,
           sum-most (x .negative) (y .negative) (sizeOf β x) (sizeOf β y),
-          size-most x hx l,
-          size-most y hy m,
+          shifted-size (hx .small) l,
+          shifted-size (hy .small) m,
           mul-le-mul-left greatest (ok .base),
         )
-
-    pub product-size : (up k : ℕ) → p + x .place + y .place + up ≤ k → sizeOf β x * sizeOf β y * β ^ up ≤ (β ^ p - 1) * β ^ k
-    product-size up k l =
-        let i : ℕ = p + y .place in
-        let y-most : sizeOf β y ≤ β ^ i = omega (arith, size-most y {k = y .place} hy (omega arith), greatest-below (y .place)) in
-        le-trans
-        (omega (arith, mul-le-mul-left (sizeOf β x * β ^ up) y-most, ap (λ (v : ℕ). sizeOf β x * v) (pow-add β i up)))
-        (shifted-size x hx (i + up) k (omega arith))

@@ -1,5 +1,6 @@
 -- The operands: numbers of the wide format in canonical form.
 use Prim.Native.Nat.{ℕ, _^_, _*_, _<_}
+use mathlib.Core.Bool.{Bool}
 use lib.IntN.{ℤ}
 use Rattle.theory.specs.Wide.{Canonical}
 use Rattle.theory.specs.Signed.{signed}
@@ -10,6 +11,10 @@ use Rattle.rounding.specs.declared.Wide.{Wide}
 pub record Bounded (s : Scale) (x : Wide) : Type 0 where
   pub canonical : Canonical (s .base) (s .digits) (x .significand) (x .place)
   pub place-most : x .place < 2 ^ 28
+
+-- a number from its parts
+abbrev pub wide : Bool → (significand place : ℕ) → Wide
+wide negative m k = record { negative = negative; significand = m; place = k }
 
 -- the magnitude of a number, and its value
 abbrev pub sizeOf : ℕ → Wide → ℕ

@@ -3,18 +3,15 @@ use format::Scale;
 use format::Significand;
 use rounding::Cut;
 use rounding::Rounding;
-use rounding::Wide;
 use rounding::choice::finish;
 use rounding::cutting::cut;
 use rounding::cutting::cut_long;
 use theory::Direction;
 use two_words::TwoWords;
 ghost use mathlib.Core.Path.{_≡_};
-ghost use mathlib.Core.Bool.{xor};
 ghost use Prim.Native.Nat.{_*_, _<_, _^_};
 ghost use Rattle.format.specs.Formats.{Scaled};
 ghost use Rattle.rounding.specs.Cut.{cutOf, Rounds};
-ghost use Rattle.wide.specs.Operand.{Bounded, sizeOf};
 
 // The cut of a * b * base ^ up / base ^ down: mostly both have all their digits.
 fn product_cut(scale: Scale, a: Significand, b: Significand, up: u32, down: u32) -> Cut
@@ -35,23 +32,30 @@ fn product_cut(scale: Scale, a: Significand, b: Significand, up: u32, down: u32)
             high: n.high,
             low: n.low,
         };
-        return cut(made, words, up, down);
+        let counted = cut(made, words, up, down);
+        let location = counted.location;
+        return Cut {
+            steps: counted.steps,
+            place: counted.place,
+            location: location,
+        };
     }
     cut_long(scale, n, up, down, least, shift)
 }
 
-// x * y * base ^ up / base ^ down, rounded.
-pub fn product(scale: Scale, direction: Direction, x: Wide, y: Wide, up: u32, down: u32) -> Rounding
-    requires { ⌜ Scaled scale × Bounded scale x × Bounded scale y × (up < 2 ^ 28) × (down < 2 ^ 28) ⌝ }
-    ensures { λ r. ⌜ Rounds (scale .base) (scale .digits) direction (xor (x .negative) (y .negative))
-        (sizeOf (scale .base) x * sizeOf (scale .base) y * scale .base ^ up) (scale .base ^ down) r ⌝ }
+// a * b * base ^ up / base ^ down, with the sign `negative`, rounded.
+pub fn product(
+    scale: Scale,
+    direction: Direction,
+    negative: bool,
+    a: Significand,
+    b: Significand,
+    up: u32,
+    down: u32,
+) -> Rounding
+    requires { ⌜ Scaled scale × (a < scale .bound) × (b < scale .bound) × (up < 2 ^ 29) × (down < 2 ^ 29) ⌝ }
+    ensures { λ r. ⌜ Rounds (scale .base) (scale .digits) direction negative (a * b * scale .base ^ up) (scale .base ^ down) r ⌝ }
 {
-    let exact = product_cut(
-        scale,
-        x.significand,
-        y.significand,
-        x.place + y.place + up,
-        down,
-    );
-    finish(scale, direction, x.negative != y.negative, exact)
+    let exact = product_cut(scale, a, b, up, down);
+    finish(scale, direction, negative, exact)
 }

@@ -17,12 +17,10 @@ use two_words::product::product;
 use two_words::quotient::divide;
 use two_words::sums::less;
 ghost use mathlib.Core.Path.{_≡_};
-ghost use mathlib.Core.Bool.{xor};
 ghost use Prim.Native.Nat.{_+_, _*_, _<_, _≤_, _^_};
 ghost use Rattle.format.specs.Formats.{Scaled};
 ghost use Rattle.rounding.specs.Cut.{cutOf, Rounds};
 ghost use Rattle.rounding.specs.Location.{located};
-ghost use Rattle.wide.specs.Operand.{Bounded, sizeOf};
 ghost use Rattle.wide.specs.Quotient.{Leading, Shifted, CutShifted, digitsFrom, digitsOf};
 
 // The cut of a quotient, and how many of its digits were worked out.
@@ -143,22 +141,21 @@ fn quotient_cut(scale: Scale, a: Significand, b: Significand, high: u32, low: u3
     divide_shifted(scale, a, b, unit, after, place)
 }
 
-// x * base ^ up / (y * base ^ down), rounded.
+// m * base ^ up / (n * base ^ down), with the sign `negative`, rounded.
 pub fn quotient(
     scale: Scale,
     direction: Direction,
-    x: Wide,
-    y: Wide,
+    negative: bool,
+    m: Significand,
+    n: Significand,
     up: u32,
     down: u32,
 ) -> CountedRounding
-    requires { ⌜ Scaled scale × Bounded scale x × Bounded scale y × (1 ≤ y .significand) × (up < 2 ^ 28) × (down < 2 ^ 28) ⌝ }
-    ensures { λ r. ⌜ Rounds (scale .base) (scale .digits) direction (xor (x .negative) (y .negative))
-        (sizeOf (scale .base) x * scale .base ^ up) (sizeOf (scale .base) y * scale .base ^ down) (r .rounding)
-        × (r .digits ≡ digitsOf (scale .base) (scale .digits) (x .significand) (y .significand) (x .place + up) (y .place + down)) ⌝ }
+    requires { ⌜ Scaled scale × (m < scale .bound) × (1 ≤ n) × (n < scale .bound) × (up < 2 ^ 29) × (down < 2 ^ 29) ⌝ }
+    ensures { λ r. ⌜ Rounds (scale .base) (scale .digits) direction negative (m * scale .base ^ up) (n * scale .base ^ down) (r .rounding)
+        × (r .digits ≡ digitsOf (scale .base) (scale .digits) m n up down) ⌝ }
 {
-    let negative = x.negative != y.negative;
-    if x.significand == 0 {
+    if m == 0 {
         let digits: u32 = 0;
         let rounding = Rounding {
             wide: Wide {
@@ -170,27 +167,25 @@ pub fn quotient(
         };
         return CountedRounding { rounding, digits };
     }
-    let mut a = Normal {
-        value: x.significand,
-        shift: 0,
-    };
-    let mut b = Normal {
-        value: y.significand,
-        shift: 0,
-    };
-    if (x.significand < scale.least) | (y.significand < scale.least) {
+    let mut a = m;
+    let mut b = n;
+    let mut low = down;
+    let mut high = up;
+    if (m < scale.least) | (n < scale.least) {
         let made = Scale {
             base: scale.base,
             digits: scale.digits,
             least: scale.least,
             bound: scale.bound,
         };
-        a = normalise(made, x.significand);
-        b = normalise(made, y.significand);
+        let first = normalise(made, m);
+        let second = normalise(made, n);
+        a = first.value;
+        b = second.value;
+        low = down + first.shift;
+        high = up + second.shift;
     }
-    let high = x.place + up + b.shift;
-    let low = y.place + down + a.shift;
-    let counted = quotient_cut(scale, a.value, b.value, high, low);
+    let counted = quotient_cut(scale, a, b, high, low);
     let exact = counted.cut;
     CountedRounding {
         rounding: finish(scale, direction, negative, exact),

@@ -26,7 +26,7 @@ ghost use Rattle.two_words.specs.Amount.{amount};
 ghost use Rattle.format.specs.Formats.{Scaled};
 ghost use Rattle.rounding.specs.Cut.{cutOf};
 ghost use Rattle.rounding.specs.Digits.{Unit};
-ghost use Rattle.wide.specs.Operand.{Bounded, valueOf};
+ghost use Rattle.wide.specs.Operand.{Bounded, valueOf, wide};
 ghost use Rattle.wide.specs.Sum.{Adds, InUnits, SumCut, RoundsZ, belowPower};
 
 // A sign and a magnitude, in any unit.
@@ -200,16 +200,35 @@ fn far_cut(scale: Scale, x: Wide, y: Wide, gap: u32) -> Cut
     }
 }
 
-// x + y, rounded, where x has the higher place, `gap` places above that of y.
-pub fn aligned_sum(scale: Scale, direction: Direction, x: Wide, y: Wide, gap: u32) -> Rounding
-    requires { ⌜ Scaled scale × Bounded scale x × Bounded scale y × (x .place ≡ y .place + gap) ⌝ }
-    ensures { λ r. ⌜ RoundsZ (scale .base) (scale .digits) direction (valueOf (scale .base) x +ℤ valueOf (scale .base) y) r ⌝ }
+// The sum of (-1) ^ a * m * base ^ (place + gap) and (-1) ^ b * n * base ^ place, rounded.
+pub fn aligned_sum(
+    scale: Scale,
+    direction: Direction,
+    a: bool,
+    m: Significand,
+    b: bool,
+    n: Significand,
+    place: u32,
+    gap: u32,
+) -> Rounding
+    requires { ⌜ Scaled scale × Bounded scale (wide a m (place + gap)) × Bounded scale (wide b n place) ⌝ }
+    ensures { λ r. ⌜ RoundsZ (scale .base) (scale .digits) direction (valueOf (scale .base) (wide a m (place + gap)) +ℤ valueOf (scale .base) (wide b n place)) r ⌝ }
 {
+    let x = Wide {
+        negative: a,
+        significand: m,
+        place: place + gap,
+    };
+    let y = Wide {
+        negative: b,
+        significand: n,
+        place: place,
+    };
     if gap <= scale.digits {
         return near_sum(scale, direction, x, y, gap);
     }
     let cut = far_cut(scale, x, y, gap);
-    finish(scale, direction, x.negative, cut)
+    finish(scale, direction, a, cut)
 }
 
 // x + y, rounded, in either order.
@@ -224,5 +243,14 @@ pub fn sum(scale: Scale, direction: Direction, x: Wide, y: Wide) -> Rounding
         low = x;
     }
     let gap = high.place - low.place;
-    aligned_sum(scale, direction, high, low, gap)
+    aligned_sum(
+        scale,
+        direction,
+        high.negative,
+        high.significand,
+        low.negative,
+        low.significand,
+        low.place,
+        gap,
+    )
 }

@@ -1,8 +1,8 @@
 -- `arithmetic::fraction::divide_whole` meets its contract: the fraction in the wide format, delivered.
 use Rattle.theory.proofs.Prelude.{_≤_, _∙_, ap, sym, arith, w32, SFits, needs}
 use Rattle.arithmetic.specs.Marked.{marked, markedFraction}
-use Rattle.arithmetic.proofs.Prelude.{back, emin-admitted, known}
-use Rattle.arithmetic.proofs.Prepared.{Delivers, Parts, parts, denominator-none, scale-scaled, fraction-delivers}
+use Rattle.arithmetic.proofs.Prelude.{aboveZero, back, belowZero, emin-admitted, known}
+use Rattle.arithmetic.proofs.Prepared.{Delivers, Part, above-part, below-part, denominator-none, scale-scaled, fraction-delivers}
 use Rattle.arithmetic.proofs.fraction.divide_whole.Statement.{statement}
 use Rattle.arithmetic.proofs.fraction.divide_whole.Tie as tie
 
@@ -20,8 +20,11 @@ start c = c .before .before .before .before .before .before .before .before
 some : (c : tie.After-size) → 1 ≤ start c .args .denominator
 some c = omega (arith, c .before .before .before .before .before .before .before .if1 .left)
 
-unit : (c : tie.After-size) → let b = c .before .before in Parts (start c .args .prepared .format) (b .above-zero .result) (b .before .before .below-zero .result)
-unit c = let b = c .before .before in parts (known (start c .pre) .admits) (emin-fits (start c)) (b .above-zero .ensures) (b .before .before .below-zero .ensures)
+down : (c : tie.After-size) → Part (aboveZero (start c .args .prepared .format .emin)) (c .before .before .above-zero .result)
+down c = above-part (known (start c .pre) .admits) (emin-fits (start c)) (c .before .before .above-zero .ensures)
+
+up : (c : tie.After-size) → Part (belowZero (start c .args .prepared .format .emin)) (c .before .before .before .before .below-zero .result)
+up c = below-part (known (start c .pre) .admits) (emin-fits (start c)) (c .before .before .before .before .below-zero .ensures)
 
 numerator-fits : (c : tie.Start) → SFits w32 (c .args .numerator)
 numerator-fits c = search needs
@@ -32,7 +35,7 @@ result : (c : tie.After-fraction) → let s = start (c .before) .args in
 result c =
     let a = c .before in
     let s = start a in
-    fraction-delivers (s .pre) (s .args .direction) (s .args .numerator) (some a) (unit a)
+    fraction-delivers (s .pre) (s .args .direction) (s .args .numerator) (some a) (down a) (up a)
     (a .before .is-below-zero .ensures ∙ rw (back (numerator-fits s))) (a .size .ensures ∙ rw (back (numerator-fits s))) (c .fraction .ensures)
 
 pub divide-whole-spec : {M : Type 1} → statement M
@@ -41,5 +44,5 @@ divide-whole-spec =
     (tie.spec
     returns (λ c κs. let s = c .before .before .before in rw (back (emin-fits s)) (emin-admitted (known (s .pre) .admits)))
     (λ c κs. search needs) (λ c κs. search needs) (λ c κs. search needs)
-    (λ c κs. (scale-scaled (start c .pre), some c, unit c .down-small, unit c .up-small))
+    (λ c κs. (scale-scaled (start c .pre), some c, up c .small, down c .small))
     (λ c κs. (start (c .before) .pre, result c .canonical)) (λ c. c .deliver-wide .ensures ∙ result (c .before) .is))

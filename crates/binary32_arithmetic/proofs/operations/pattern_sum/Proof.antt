@@ -3,8 +3,7 @@ use Rattle.theory.proofs.Prelude.{_∙_, ap, _≡_, sym, needs}
 use Rattle.format.specs.Published.{binary32}
 use Rattle.number.specs.Answers.{numberGiven}
 use Rattle.binary32.specs.Patterns.{answerWritten}
-use Rattle.binary32_arithmetic.specs.declared.Operation.the-variants.{Sum}
-use Rattle.binary32_arithmetic.specs.Calls.{roundedBy}
+use Rattle.binary32_arithmetic.specs.Calls.{Sum, roundedBy}
 use Rattle.binary32_arithmetic.proofs.CallLaws.{Read, call-ready, call-refused, constant-operands, constant-format, result-member}
 use Rattle.binary32_arithmetic.proofs.operations.pattern_sum.Statement.{statement}
 use Rattle.binary32_arithmetic.proofs.operations.pattern_sum.Tie as tie

@@ -1,11 +1,11 @@
 -- `binary32_arithmetic::slices::examine` meets its contract.
 use Rattle.theory.proofs.Prelude.{true, _∙_, ap, ap₂, _≡_, sym, needs, ltb-true}
-use Rattle.theory.proofs.Tests.{and-left, and-right, and-made, and-failed, and-passed, denied, granted, unless-passed, unless-failed}
+use Rattle.theory.specs.Tests.{_and_}
+use Rattle.theory.proofs.Tests.{and-left, and-right, denied, granted, unless-passed, unless-failed}
 use Rattle.format.specs.Published.{binary32}
 use Rattle.number.specs.Answers.{numberGiven}
 use Rattle.binary32.specs.Patterns.{finite, answerWritten}
-use Rattle.binary32_arithmetic.specs.declared.Operation.the-variants.{Sum}
-use Rattle.binary32_arithmetic.specs.Calls.{roundedBy, onPatterns}
+use Rattle.binary32_arithmetic.specs.Calls.{Sum, roundedBy, onPatterns}
 use Rattle.binary32_arithmetic.specs.Slices.{passes}
 use Rattle.binary32_arithmetic.proofs.CallLaws.{constant-operands, constant-format}
 use Rattle.binary32_arithmetic.proofs.ExactSums.{pattern-member}
@@ -20,53 +20,43 @@ returns c =
 
 returns-2 : tie.Need-returns-2
 unfolding onPatterns
-returns-2 c = sym (ap passes (unless-failed _ _ (and-failed _ (denied (c .before .is-finite .ensures) (c .if2 .taken)))))
+returns-2 c = sym (ap passes (unless-failed _ _ (denied (c .before .are-finite .ensures) (c .if2 .taken))))
 
--- the first is finite, and both are
-first : (c : tie.Else2) → finite (c .before .before .before .before .args .a) ≡ true
-first c = granted (c .before .is-finite .ensures) (c .if2 .left)
+both : (c : tie.Else2) → let s = c .before .before .before .before .args in finite (s .a) and finite (s .b) ≡ true
+both c = granted (c .before .are-finite .ensures) (c .if2 .left)
 
-returns-3 : tie.Need-returns-3
-unfolding onPatterns
-returns-3 c =
-    let b = c .before in
-    sym (ap passes (unless-failed _ _ (and-passed _ (first (b .before)) ∙ denied (b .is-finite2 .ensures) (c .if3 .taken))))
-
-second : (c : tie.Else3) → finite (c .before .before .before .before .before .before .args .b) ≡ true
-second c = granted (c .before .is-finite2 .ensures) (c .if3 .left)
-
-abbrev read : tie.After-add → tie.Else3
+abbrev read : tie.After-add → tie.Else2
 read c = c .before .before .before .before
 
 -- the entry is the sum, written
-entry : (c : tie.After-add) → let s = read c .before .before .before .before .before .before .args in
+entry : (c : tie.After-add) → let s = read c .before .before .before .before .args in
     answerWritten (numberGiven (c .add .result)) ≡ onPatterns Sum (s .direction) (s .a) (s .b)
 unfolding onPatterns
 entry c =
     let e = read c in
-    let s = e .before .before .before .before .before .before .args in
+    let s = e .before .before .before .before .args in
     let r = c .before in
     ap answerWritten
     (c .add .ensures
     ∙ constant-format (r .before .before .prepared-binary32 .ensures) Sum (s .direction) (r .before .read-finite .result) (r .read-finite2 .result)
     ∙ ap₂ (roundedBy Sum binary32 (s .direction)) (r .before .read-finite .ensures) (r .read-finite2 .ensures))
-    ∙ sym (unless-passed _ _ (and-made (first (e .before .before)) (second e)))
+    ∙ sym (unless-passed _ _ (both e))
 
 add-requires : tie.Need-add-requires
 add-requires c κs =
-    let e = c .before .before .before in
-    constant-operands (c .before .before .prepared-binary32 .ensures) (pattern-member _ (first (e .before .before)) (c .before .read-finite .ensures))
-    (pattern-member _ (second e) (c .read-finite2 .ensures))
+    let h = both (c .before .before .before) in
+    constant-operands (c .before .before .prepared-binary32 .ensures) (pattern-member _ (and-left _ _ h) (c .before .read-finite .ensures))
+    (pattern-member _ (and-right _ _ h) (c .read-finite2 .ensures))
+
+returns-3 : tie.Need-returns-3
+returns-3 c = sym (ap passes (sym (entry (c .before .before)) ∙ ap (λ a. answerWritten (numberGiven a)) (c .enum-told .given .1)))
 
 returns-4 : tie.Need-returns-4
-returns-4 c = sym (ap passes (sym (entry (c .before .before)) ∙ ap (λ a. answerWritten (numberGiven a)) (c .enum-told .given .1)))
-
-returns-5 : tie.Need-returns-5
-returns-5 c = sym (ap passes (sym (entry (c .before .before .before)) ∙ ap (λ a. answerWritten (numberGiven a)) (c .before .why .given .1)))
+returns-4 c = sym (ap passes (sym (entry (c .before .before .before)) ∙ ap (λ a. answerWritten (numberGiven a)) (c .before .why .given .1)))
 
 pub examine-spec : {M : Type 1} → statement M
 examine-spec =
     tie.close
     (tie.spec
-    (λ c κs. search needs) returns (λ c κs. search needs) returns-2 (λ c κs. search needs) returns-3 (λ c κs. search needs)
-    (λ c κs. first (c .before .before .before)) (λ c κs. second (c .before .before)) add-requires (λ c. search needs) (λ c. search needs) returns-4 returns-5)
+    (λ c κs. search needs) returns (λ c κs. search needs) returns-2 (λ c κs. search needs)
+    (λ c κs. and-left _ _ (both (c .before))) (λ c κs. and-right _ _ (both (c .before .before))) add-requires (λ c. search needs) (λ c. search needs) returns-3 returns-4)

@@ -5,8 +5,7 @@ use mir.Facts.{fits-le}
 use mir.Syntax.{w64}
 use mir.Val.{Fits}
 use Rattle.binary32_arithmetic.specs.declared.WrittenEntry.{WrittenEntry}
-use Rattle.binary32_arithmetic.specs.declared.Operation.the-variants.{Sum}
-use Rattle.binary32_arithmetic.specs.Calls.{onPatterns}
+use Rattle.binary32_arithmetic.specs.Calls.{Sum, onPatterns}
 use Rattle.binary32_arithmetic.specs.Slices.{entryWritten, written, sums, markedEntry, inexactIn, inexactEntries}
 use Rattle.binary32_arithmetic.proofs.Passes.{written-step, sums-end, inexact-step, inexact-end, inexact-most, marked-written}
 use Rattle.binary32_arithmetic.proofs.slices.write_sums.Statement.{statement}

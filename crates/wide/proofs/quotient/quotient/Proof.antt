@@ -1,103 +1,97 @@
 -- `wide::quotient::quotient` meets its contract: the cut is that of the exact quotient.
-use Rattle.theory.proofs.Prelude.{ℕ, _≤_, _<_, _+_, _^_, _*_, true, false, Bool, xor, ⊎-elim, _∙_, _≡_, refl, mul-pos, eq-eqb, ltb, ltb-false, arith, needs}
+use Rattle.theory.proofs.Prelude.{ℕ, _≤_, _<_, _+_, _^_, _*_, true, false, Bool, ⊎-elim, _∙_, _≡_, refl, mul-pos, eq-eqb, ltb, ltb-false, arith, needs}
 use mathlib.Core.Bool.{_||_}
 use Rattle.theory.proofs.Tests.{never}
-use Rattle.rounding.proofs.Prelude.{pow-pos, Scale, cutOf, positional, digits-most}
-use Rattle.wide.specs.declared.quotient.Normal.{Normal}
-use Rattle.wide.specs.Operand.{sizeOf}
-use Rattle.wide.specs.Quotient.{Shifted, digitsOf}
+use Rattle.rounding.specs.declared.Cut.{Cut}
+use Rattle.rounding.proofs.Prelude.{pow-pos, Scale, Scaled, cutOf, positional, digits-most}
+use Rattle.wide.specs.Quotient.{Shifted, digitsFrom, digitsOf}
 use Rattle.wide.proofs.Sizes.{shifted-size}
 use Rattle.wide.proofs.Quotients.{quotient-exact, digits-of, shifted-none}
 use Rattle.wide.proofs.Finishes.{finishes, rounds-zero}
 use Rattle.wide.proofs.quotient.quotient.Statement.{statement}
 use Rattle.wide.proofs.quotient.quotient.Tie as tie
 
-abbrev numerator : tie.Start → ℕ
-numerator c = sizeOf (c .args .scale .base) (c .args .x) * c .args .scale .base ^ c .args .up
-
-abbrev denominator : tie.Start → ℕ
-denominator c = sizeOf (c .args .scale .base) (c .args .y) * c .args .scale .base ^ c .args .down
-
-positive : (c : tie.Start) → 1 ≤ denominator c
-positive c =
-    let b = c .pre .0 .base-least in
-    mul-pos (mul-pos (c .pre .3) (pow-pos b (c .args .y .place))) (pow-pos b (c .args .down))
+positive : (c : tie.Start) → 1 ≤ c .args .n * c .args .scale .base ^ c .args .down
+positive c = mul-pos (c .pre .2) (pow-pos (c .pre .0 .base-least) (c .args .down))
 
 abbrev start : tie.Joined2 → tie.Start
-start c = c .before .before .before .before .before .before .before .before .before
-
--- both significands, with all their digits
-shifted-at : {s : Scale} {m : ℕ} {n n′ : Normal} → n ≡ n′ → Shifted s m (n′ .value) (n′ .shift) → Shifted s m (n .value) (n .shift)
-shifted-at e h = rw e h
+start c = c .before .before .before .before
 
 neither : (t u : Bool) → t || u ≡ false → (t ≡ false) × (u ≡ false)
 neither true u e = absurd (never e)
 neither false u e = (refl, e)
 
-small : (c : tie.Start) → (c .args .x .significand < c .args .scale .bound) × (c .args .y .significand < c .args .scale .bound)
-small c = let p = c .pre in (omega (arith, p .1 .canonical .small, p .0 .bound-power), omega (arith, p .2 .canonical .small, p .0 .bound-power))
+-- both significands with all their digits: the shift of each goes to the other side
+record Brought (s : Scale) (m n a b up down high low : ℕ) : Type 0 where
+  first-shift : ℕ
+  second-shift : ℕ
+  first : Shifted s m a first-shift
+  second : Shifted s n b second-shift
+  high-is : high ≡ up + second-shift
+  low-is : low ≡ down + first-shift
 
-first : (c : tie.Joined2) → let s = start c .args in Shifted (s .scale) (s .x .significand) (c .if2 .a .value) (c .if2 .a .shift)
-first c =
+module _ {s : Scale} (h : Scaled s) {m n a b up down high low : ℕ} (some : 1 ≤ n) (t : Brought s m n a b up down high low) where
+  exact-at : {c : Cut} → c ≡ cutOf (s .base) (s .digits) (a * s .base ^ high) (b * s .base ^ low) → c ≡ cutOf (s .base) (s .digits) (m * s .base ^ up) (n * s .base ^ down)
+  exact-at e = (rw (t .high-is, t .low-is) at e) ∙ quotient-exact h up down (t .first) (t .second) some
+
+  digits-at : {k : ℕ} → 1 ≤ m → k ≡ digitsFrom (s .base) (s .digits) a b high low → k ≡ digitsOf (s .base) (s .digits) m n up down
+  digits-at l e = (rw (t .high-is, t .low-is) at e) ∙ digits-of h up down l some (t .first) (t .second)
+
+shifted-at : {s : Scale} {m a a′ shift : ℕ} → a ≡ a′ → Shifted s m a′ shift → Shifted s m a shift
+shifted-at e h = rw e h
+
+brought : (c : tie.Joined2) → let s = start c .args in Brought (s .scale) (s .m) (s .n) (c .if2 .a) (c .if2 .b) (s .up) (s .down) (c .if2 .high) (c .if2 .low)
+brought c =
     let s = start c in
-    ⊎-elim (λ w. shifted-at (w .3) (w .1 .ensures))
-    (λ w. shifted-at (w .1) (shifted-none (s .pre .0) (ltb-false _ _ (neither (ltb (s .args .x .significand) (s .args .scale .least)) (ltb (s .args .y .significand) (s .args .scale .least)) (w .0 .left) .0)) (small s .0)))
+    ⊎-elim
+    (λ w. record { first-shift = _; second-shift = _; first = shifted-at (w .5) (w .1 .ensures); second = shifted-at (w .6) (w .2 .ensures); high-is = w .8; low-is = w .7 })
+    (λ w.
+    let all = neither (ltb (s .args .m) (s .args .scale .least)) (ltb (s .args .n) (s .args .scale .least)) (w .0 .left) in
+    record {
+      first-shift = 0;
+      second-shift = 0;
+      first = shifted-at (w .1) (shifted-none (s .pre .0) (ltb-false _ _ (all .0)) (s .pre .1));
+      second = shifted-at (w .2) (shifted-none (s .pre .0) (ltb-false _ _ (all .1)) (s .pre .3));
+      high-is = omega (arith, w .4);
+      low-is = omega (arith, w .3);
+    })
     (c .if2 .came)
 
-second : (c : tie.Joined2) → let s = start c .args in Shifted (s .scale) (s .y .significand) (c .if2 .b .value) (c .if2 .b .shift)
-second c =
-    let s = start c in
-    ⊎-elim (λ w. shifted-at (w .4) (w .2 .ensures))
-    (λ w. shifted-at (w .2) (shifted-none (s .pre .0) (ltb-false _ _ (neither (ltb (s .args .x .significand) (s .args .scale .least)) (ltb (s .args .y .significand) (s .args .scale .least)) (w .0 .left) .1)) (small s .1)))
-    (c .if2 .came)
+high-most : (c : tie.Joined2) → c .if2 .high < 2 ^ 30
+high-most c = let p = start c .pre in let b = brought c in omega (arith, p .4, b .high-is, b .second .shift-most, digits-most (p .0))
 
-high-most : (c : tie.Joined2) → start c .args .x .place + start c .args .up + c .if2 .b .shift < 2 ^ 30
-high-most c = let p = start c .pre in omega (arith, p .1 .place-most, p .4, second c .shift-most, digits-most (p .0))
-
-low-most : (c : tie.Joined2) → start c .args .y .place + start c .args .down + c .if2 .a .shift < 2 ^ 30
-low-most c = let p = start c .pre in omega (arith, p .2 .place-most, p .5, first c .shift-most, digits-most (p .0))
-
-abbrev normal : tie.After-quotient-cut → tie.Joined2
-normal c = c .before .before .before .before .before
+low-most : (c : tie.Joined2) → c .if2 .low < 2 ^ 30
+low-most c = let p = start c .pre in let b = brought c in omega (arith, p .5, b .low-is, b .first .shift-most, digits-most (p .0))
 
 -- the cut is that of the exact quotient
-exact : (c : tie.After-quotient-cut) → let s = start (normal c) in
-    c .quotient-cut .result .cut ≡ cutOf (s .args .scale .base) (s .args .scale .digits) (numerator s) (denominator s)
-exact c =
-    let b = normal c in
-    let s = start b in
-    let a = s .args in
-    c .quotient-cut .ensures .0
-    ∙ quotient-exact (s .pre .0) (a .x .place) (a .y .place) (a .up) (a .down) (first b) (second b) (s .pre .3)
+exact : (c : tie.After-quotient-cut) → let a = start (c .before) .args in
+    c .quotient-cut .result .cut ≡ cutOf (a .scale .base) (a .scale .digits) (a .m * a .scale .base ^ a .up) (a .n * a .scale .base ^ a .down)
+exact c = let p = start (c .before) .pre in exact-at (p .0) (p .2) (brought (c .before)) (c .quotient-cut .ensures .0)
 
 -- and its digits are those of the operands
-counted : (c : tie.After-quotient-cut) → let a = start (normal c) .args in
-    c .quotient-cut .result .digits ≡ digitsOf (a .scale .base) (a .scale .digits) (a .x .significand) (a .y .significand) (a .x .place + a .up) (a .y .place + a .down)
+counted : (c : tie.After-quotient-cut) → let a = start (c .before) .args in
+    c .quotient-cut .result .digits ≡ digitsOf (a .scale .base) (a .scale .digits) (a .m) (a .n) (a .up) (a .down)
 counted c =
-    let b = normal c in
-    let s = start b in
-    let a = s .args in
-    c .quotient-cut .ensures .1
-    ∙ digits-of (s .pre .0) (a .x .place + a .up) (a .y .place + a .down) (omega (arith, b .before .before .before .before .before .if1 .left)) (s .pre .3) (first b) (second b)
+    let j = c .before in
+    let p = start j .pre in
+    digits-at (p .0) (p .2) (brought j) (omega (arith, j .before .before .before .if1 .left)) (c .quotient-cut .ensures .1)
 
 pub quotient-spec : {M : Type 1} → statement M
-unfolding xor
 quotient-spec =
     tie.close
     (tie.spec
     (λ c.
-    let s = c .before .before .before .before in (
-      rounds-zero (positional (s .pre .0)) (s .args .direction) _ (denominator s) (positive s) (rw (c .if1 .taken) (omega arith)),
-      rw (eq-eqb (s .args .x .significand) 0 (c .if1 .taken)),
+    let s = c .before in (
+      rounds-zero (positional (s .pre .0)) (s .args .direction) (s .args .negative) _ (positive s) (rw (c .if1 .taken) (omega arith)),
+      rw (eq-eqb (s .args .m) 0 (c .if1 .taken)),
     ))
-    (λ c κs. search needs) (λ c κs. search needs) (λ c. search needs) (λ c. omega (arith, high-most (c .before .before)))
-    (λ c. search needs) (λ c. omega (arith, low-most (c .before .before .before .before)))
+    (λ c κs. search needs) (λ c κs. search needs)
+    (λ c. let p = c .before .before .before .before .before .before .before .pre in omega (arith, p .5, c .before .before .normalise .ensures .shift-most, digits-most (p .0)))
+    (λ c. let p = c .before .before .before .before .before .before .before .before .pre in omega (arith, p .4, c .before .before .normalise2 .ensures .shift-most, digits-most (p .0)))
+    (λ c κs. let b = brought c in (start c .pre .0, b .first .leading, b .second .leading, high-most c, low-most c))
     (λ c κs.
-    let b = c .before .before .before .before in
-    (start b .pre .0, first b .leading, second b .leading, high-most b, low-most b))
-    (λ c κs.
-    let s = start (normal (c .before)) in
+    let s = start (c .before .before) in
     let p = s .pre in
     finishes (p .0) _ _ (positive s) (exact (c .before)) (2 ^ 30) (omega arith)
-    (shifted-size (positional (p .0)) (s .args .x) (p .1 .canonical) (s .args .up) (2 ^ 30) (omega (arith, p .1 .place-most, p .4))))
-    (λ c. let k = c .before .before in (c .finish .ensures _ _ (positive (start (normal k))) (exact k), counted k)))
+    (shifted-size (positional (p .0)) (omega (arith, p .1, p .0 .bound-power)) (omega (arith, p .4))))
+    (λ c. let k = c .before .before in (c .finish .ensures _ _ (positive (start (k .before))) (exact k), counted k)))

@@ -1,7 +1,7 @@
 -- `wide::sum::sum` meets its contract: the sum does not depend on the order.
-use Rattle.theory.proofs.Prelude.{_≤_, ⊎-elim, _≡_, refl, subst, arith, ℤ, _+ℤ_, +ℤ-comm}
+use Rattle.theory.proofs.Prelude.{_≤_, _+_, _-_, ⊎-elim, _∙_, ap, _≡_, refl, subst, arith, ℤ, _+ℤ_, +ℤ-comm}
 use Rattle.rounding.specs.declared.Wide.{Wide}
-use Rattle.wide.specs.Operand.{Bounded, valueOf}
+use Rattle.wide.specs.Operand.{Bounded, valueOf, wide}
 use Rattle.wide.specs.Sum.{RoundsZ}
 use Rattle.wide.proofs.sum.sum.Statement.{statement}
 use Rattle.wide.proofs.sum.sum.Tie as tie
@@ -31,17 +31,24 @@ ordered c =
     (record { high-operand = p .1; low-operand = p .2; order = omega (arith, w .0 .left); sum = refl }))
     (c .if1 .came)
 
+-- the higher one, from the lower one's place and the distance
+raised : (h l : Wide) → l .place ≤ h .place → wide (h .negative) (h .significand) (l .place + (h .place - l .place)) ≡ h
+raised h l e = ap (wide (h .negative) (h .significand)) (omega (arith, e))
+
 aligned-sum-requires : tie.Need-aligned-sum-requires
 aligned-sum-requires c κs =
     let j = c .before .before in
     let o = ordered j in
-    (start j .pre .0, o .high-operand, o .low-operand, omega (arith, o .order))
+    (start j .pre .0, rw (raised (j .if1 .high) (j .if1 .low) (o .order)) (o .high-operand), o .low-operand)
 
 returns : tie.Need-returns
 returns c =
     let j = c .before .before .before in
     let s = start j .args in
-    subst (λ (z : ℤ). RoundsZ (s .scale .base) (s .scale .digits) (s .direction) z (c .aligned-sum .result)) (ordered j .sum) (c .aligned-sum .ensures)
+    let o = ordered j in
+    let value = valueOf (s .scale .base) in
+    let sum = ap (λ (x : Wide). value x +ℤ value (j .if1 .low)) (raised (j .if1 .high) (j .if1 .low) (o .order)) ∙ o .sum in
+    subst (λ (z : ℤ). RoundsZ (s .scale .base) (s .scale .digits) (s .direction) z (c .aligned-sum .result)) sum (c .aligned-sum .ensures)
 
 pub sum-spec : {M : Type 1} → statement M
 sum-spec = tie.close (tie.spec (λ c. ordered (c .before .before) .order) aligned-sum-requires returns)

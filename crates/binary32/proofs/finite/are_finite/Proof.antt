@@ -1,8 +1,8 @@
--- `saved_lines::reach::are_finite` meets its contract.
+-- `binary32::finite::are_finite` meets its contract.
 use Rattle.theory.proofs.Prelude.{_∙_, sym, needs}
 use Rattle.theory.proofs.Tests.{and-failed, and-passed, denied, granted}
-use Rattle.saved_lines.proofs.reach.are_finite.Statement.{statement}
-use Rattle.saved_lines.proofs.reach.are_finite.Tie as tie
+use Rattle.binary32.proofs.finite.are_finite.Statement.{statement}
+use Rattle.binary32.proofs.finite.are_finite.Tie as tie
 
 returns : tie.Need-returns
 returns c = sym (and-failed _ (denied (c .before .is-finite .ensures) (c .if1 .taken)))

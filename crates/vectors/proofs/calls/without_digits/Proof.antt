@@ -1,9 +1,9 @@
--- `arithmetic::quotient::without_digits` meets its contract.
+-- `vectors::calls::without_digits` meets its contract.
 use Rattle.theory.proofs.Prelude.{ap, sym, needs}
 use Rattle.arithmetic.specs.Quotients.{quotientGiven, withoutDigits}
 use Rattle.arithmetic.specs.declared.QuotientAnswer.{QuotientAnswer}
-use Rattle.arithmetic.proofs.quotient.without_digits.Statement.{statement}
-use Rattle.arithmetic.proofs.quotient.without_digits.Tie as tie
+use Rattle.vectors.proofs.calls.without_digits.Statement.{statement}
+use Rattle.vectors.proofs.calls.without_digits.Tie as tie
 
 pub without-digits-spec : {M : Type 1} → statement M
 without-digits-spec =
