@@ -1,8 +1,9 @@
 -- The limit of each exponent, by one computed test over all of them: its power is within 2 ^ 63, and that of the next base is not.
-use Rattle.theory.proofs.Prelude.{ℕ, _≤_, _<_, _+_, _*_, _/_, _%_, _^_, _-_, suc, zero, true, false, Bool, ⊎-elim, _≡_, sym, refl, subst, ℕ-discrete, le-trans, lt-of-not-le, pow-le-pow-left, arith, eqb, leb, ltb, le-leb, leb-true, lt-leb, leb-false, eqb-true, ltb-true}
-use native.Mathlib.Nat.{pow-le-pow-right, not-suc-le-zero}
+use Rattle.theory.proofs.Prelude.{ℕ, _≤_, _<_, _+_, _*_, _/_, _%_, _^_, _-_, suc, zero, true, false, Bool, ⊎-elim, _≡_, sym, refl, subst, ℕ-discrete, le-trans, pow-le-pow-left, arith, eqb, leb, ltb, le-leb, leb-true, lt-leb, leb-false, eqb-true, ltb-true}
+use native.Mathlib.Nat.{not-suc-le-zero}
 use Rattle.theory.specs.Tests.{_and_, _or_}
 use Rattle.theory.proofs.Tests.{and-left, and-right, or-cases}
+use Rattle.theory.proofs.Powers.{pow-le-cancel}
 use Rattle.format.specs.Limits.{packedLimits, limit}
 
 -- the test passes at each number below n
@@ -54,6 +55,6 @@ limit-test b k h m = go (leb b (limit k)) refl
     go true e = sym (le-leb _ _ (within b k h (leb-true _ _ e)))
     go false e = sym (lt-leb _ _ (beyond b k h m (leb-false _ _ e)))
 
--- a power of at least 2 that is at most 2 ^ 63 has an exponent of at most 63
-pub exponent-most : (b k : ℕ) → 2 ≤ b → b ^ k ≤ 2 ^ 63 → k < 64
-exponent-most b k h p = lt-of-not-le (λ (l : 64 ≤ k). omega (arith, pow-le-pow-left h k, pow-le-pow-right {n = 2} (omega arith) l))
+-- a power of at least 2 that is at most 2 ^ e has an exponent of at most e
+pub exponent-most : (e b k : ℕ) → 2 ≤ b → b ^ k ≤ 2 ^ e → k ≤ e
+exponent-most e b k h p = pow-le-cancel {β = 2} (omega arith) k e (le-trans (pow-le-pow-left h k) p)

@@ -4,9 +4,9 @@ use native.Mathlib.Nat.{one-le-pow}
 use lib.Dec.{lit<}
 use lib.Pow.{shl-exact}
 
--- 1 shifted by k places
-pub one-shl : (k : ℕ) → k < 64 → (1 * 2 ^ k) % 2 ^ 64 ≡ 2 ^ k
-one-shl k h = shl-exact {a = 1} 1 k 64 (lit< tt) (omega arith) ∙ omega arith
+-- 1 shifted by k places, in a word of w bits
+pub one-shl : (w k : ℕ) → k < w → (1 * 2 ^ k) % 2 ^ w ≡ 2 ^ k
+one-shl w k h = shl-exact {a = 1} 1 k w (lit< tt) (omega arith) ∙ omega arith
 
 pub square-power : (s q : ℕ) → s ^ (q + q) ≡ (s * s) ^ q
 square-power s zero = pow-zero s ∙ sym (pow-zero (s * s))

@@ -48,11 +48,15 @@ preparedOf f = record { format = f; scale = scaleOf f; highest = highestPlace f 
 unfoldable pub preparation : Format → Preparation
 preparation f = unless (admitted f) (prepared.Refused FormatNotAdmitted) (prepared.Ready (preparedOf f))
 
--- a scale that an admitted format can have
-pub record Scaled (s : Scale) : Type 0 where
+-- a scale of a format whose powers are within a limit
+pub record ScaledWithin (limit : ℕ) (s : Scale) : Type 0 where
   pub base-least : 2 ≤ s .base
   pub base-most : s .base ≤ 256
   pub digits-least : 1 ≤ s .digits
   pub least-power : s .least ≡ s .base ^ (s .digits - 1)
   pub bound-power : s .bound ≡ s .base ^ s .digits
-  pub bound-most : s .bound ≤ greatestPower
+  pub bound-most : s .bound ≤ limit
+
+-- a scale that an admitted format can have
+abbrev pub Scaled : Scale → Type 0
+Scaled = ScaledWithin greatestPower

@@ -1,10 +1,10 @@
 -- Powers of 10 by the bits of their exponent, and the digits of a number in base 10 by its bits: computed tests over all of them.
-use Rattle.theory.proofs.Prelude.{ℕ, _≤_, _<_, _+_, _^_, _*_, _/_, true, Bool, _≡_, refl, pow-suc, add-one, lt-of-not-le, eqb, leb, ltb, eqb-true, leb-true, ltb-true, arith}
-use native.Mathlib.Nat.{pow-le-pow-right}
+use Rattle.theory.proofs.Prelude.{ℕ, _≤_, _<_, _+_, _^_, _*_, _/_, true, Bool, _≡_, refl, pow-suc, add-one, eqb, leb, ltb, eqb-true, leb-true, ltb-true, arith}
 use Rattle.theory.specs.Tests.{_and_}
 use Rattle.theory.proofs.Tests.{and-left, and-right}
 use Rattle.format.proofs.Limits.{below, at-below}
 use Rattle.rounding.specs.Digits.{Digits, factorOf}
+use Rattle.rounding.proofs.Scales.{count-le}
 
 -- ---- powers
 abbrev pub first : ℕ → ℕ
@@ -56,20 +56,17 @@ unfolding below _and_
 all-near = refl
 
 module _ {n b : ℕ} (h : Digits 2 n b) (l : n < 2 ^ 63) where
-  few : b < 64
-  few = lt-of-not-le (λ (k : 64 ≤ b). omega (arith, h .above, pow-le-pow-right {n = 2} (omega arith) k))
+  pub bits-few : b ≤ 63
+  bits-few = count-le {n = n} (omega arith) b 63 (h .above) l
 
   t : near b ≡ true
-  t = at-below near 64 all-near b few
+  t = at-below near 64 all-near b (omega (arith, bits-few))
 
   upper : 2 ^ b ≤ 10 ^ (guessed b + 1)
   upper = leb-true _ _ (and-left _ _ (and-right _ _ t))
 
   lower : 10 ^ guessed b ≤ 5 * 2 ^ b
   lower = leb-true _ _ (and-right _ _ (and-right _ _ t))
-
-  pub bits-few : b ≤ 63
-  bits-few = omega (arith, few)
 
   pub guess-few : guessed b ≤ 18
   guess-few = leb-true _ _ (and-left _ _ t)

@@ -1,15 +1,15 @@
--- What a scale says of its base and digits.
-use Rattle.theory.proofs.Prelude.{ℕ, _≤_, _<_, _+_, _^_, _*_, _-_, suc, _/_, _%_, true, false, Bool, ltb, ltb-true, ltb-false, _∙_, ap, _≡_, sym, ap₂, div-add-mod', mod-lt, mul-le-mul-right, mul-le-mul-left, pow-zero, pow-succ', mul-le-mul, le-of-suc-le-suc, lt-of-not-le, pow-suc, pow-le-pow-left, add-one, arith}
+-- What a scale says of its base and digits, with any limit on its powers; and numbers of two words of any width.
+use Rattle.theory.proofs.Prelude.{ℕ, _≤_, _<_, _+_, _^_, _*_, _-_, suc, _/_, _%_, true, false, Bool, ltb, ltb-true, ltb-false, _∙_, ap, _≡_, sym, ap₂, div-add-mod', mod-lt, mul-le-mul-right, mul-le-mul-left, pow-zero, pow-succ', le-of-suc-le-suc, lt-of-not-le, div-lt-iff-lt-mul, mul-pos, pow-suc, pow-le-pow-left, add-one, arith}
 use lib.Arith.{digits-div, digits-mod}
 use Rattle.theory.specs.Place.{Positional}
 use Rattle.theory.proofs.Powers.{pow-add, pow-pos, pow-pred, pow-mono, pow-le-cancel}
 use Rattle.format.specs.declared.Scale.{Scale}
-use Rattle.format.specs.Formats.{greatestPower, Scaled}
+use Rattle.format.specs.Formats.{ScaledWithin}
 use Rattle.two_words.specs.declared.TwoWords.{TwoWords}
-use Rattle.two_words.specs.Amount.{amount}
-use Rattle.rounding.specs.Digits.{Digits, Unit}
+use Rattle.two_words.specs.Amount.{amountOf}
+use Rattle.rounding.specs.Digits.{Unit}
 
-pub positional : {s : Scale} → Scaled s → Positional (s .base) (s .digits)
+pub positional : {limit : ℕ} {s : Scale} → ScaledWithin limit s → Positional (s .base) (s .digits)
 positional h = record { base = h .base-least; digits = h .digits-least }
 
 pub power-at : (β : ℕ) {i j : ℕ} → i ≡ j → β ^ i ≡ β ^ j
@@ -29,15 +29,12 @@ pub count-le : {β n : ℕ} → 2 ≤ β → (c q : ℕ) → β ^ c ≤ β * n �
 count-le {β} {n} hβ c q l m =
     le-of-suc-le-suc (lt-of-not-le (λ (k : suc q ≤ c). omega (arith, pow-mono hβ k, pow-succ' β q, mul-le-mul-left β m)))
 
-module _ {s : Scale} (h : Scaled s) where
+module _ {limit : ℕ} {s : Scale} (h : ScaledWithin limit s) where
   pub square : s .bound * s .bound ≡ s .base ^ (2 * s .digits)
   square = rw (h .bound-power) (sym (pow-add (s .base) (s .digits) (s .digits)) ∙ power-at (s .base) (omega arith))
 
-  pub square-most : s .base ^ (2 * s .digits) ≤ greatestPower * greatestPower
-  square-most = omega (arith, square, mul-le-mul (h .bound-most) (h .bound-most))
-
-  -- every power up to the digits is a significand's
-  pub power-most : {k : ℕ} → k ≤ s .digits → s .base ^ k ≤ greatestPower
+  -- every power up to the digits is within the limit
+  pub power-most : {k : ℕ} → k ≤ s .digits → s .base ^ k ≤ limit
   power-most l = omega (arith, h .bound-power, h .bound-most, pow-mono (h .base-least) l)
 
   -- a power above the digits
@@ -70,60 +67,60 @@ module _ {s : Scale} (h : Scaled s) where
   pub least-unit : Unit s (s .least) (s .digits - 1)
   least-unit = record { is = h .least-power; most = omega arith }
 
-  -- a number below bound * bound has at most twice the digits
-  pub count-most : {n c : ℕ} → s .base ^ c ≤ s .base * n → n < s .bound * s .bound → c ≤ 2 * s .digits
-  count-most {n} {c} l m = count-le (h .base-least) c (2 * s .digits) l (omega (arith, square))
+  pub bound-unit : Unit s (s .bound) (s .digits)
+  bound-unit = record { is = h .bound-power; most = omega arith }
 
   -- one digit more, where the power is at most a significand
   pub count-room : {n : ℕ} (c : ℕ) → s .base ^ c ≤ n → n < s .bound → c + 1 ≤ s .digits
   count-room {n} c l m =
       count-le {n = n} (h .base-least) (c + 1) (s .digits) (omega (arith, power-next (s .base) c, mul-le-mul-right (s .base) l)) (omega (arith, h .bound-power))
 
-  -- the digits are few against the limits on places, and a word has a bit for each
-  pub digits-most : s .digits ≤ 63
-  digits-most = pow-le-cancel {β = 2} (omega arith) (s .digits) 63 (omega (arith, h .bound-power, h .bound-most, pow-le-pow-left (h .base-least) (s .digits)))
+  -- a limit of b bits leaves b digits
+  pub digits-within : (b : ℕ) → limit ≤ 2 ^ b → s .digits ≤ b
+  digits-within b l = pow-le-cancel {β = 2} (omega arith) (s .digits) b (omega (arith, h .bound-power, h .bound-most, pow-le-pow-left (h .base-least) (s .digits)))
 
-  -- the digits of n above the format's are those of n / bound
-  pub digits-twice : (n : ℕ) {c : ℕ} → Digits (s .base) (n / s .bound) c → Digits (s .base) n (s .digits + c)
-  digits-twice n {c} d =
-      let split : s .base ^ (s .digits + c) ≡ s .bound * s .base ^ c = pow-add (s .base) (s .digits) c ∙ ap (λ (v : ℕ). v * s .base ^ c) (sym (h .bound-power)) in
-      let parts = div-add-mod' n (s .bound) in
-      record {
-        below = omega (arith, split, mul-le-mul-left (s .bound) (d .below), parts, mod-lt n bound-pos);
-        above = omega (arith, split, mul-le-mul-left (s .bound) (d .above), ap (λ (v : ℕ). s .base * v) parts);
-      }
+-- ---- numbers of two words of w bits
+module _ (w : ℕ) where
+  -- a product of two powers is small enough to be compared with
+  pub product-within : (r : TwoWords) {a b : ℕ} → 1 ≤ w → amountOf w r ≡ a * b → a ≤ 2 ^ (w - 1) → b ≤ 2 ^ (w - 1) → r .high < 2 ^ (w - 1)
+  product-within r {b = b} some e l m =
+      let half : ℕ = 2 ^ (w - 1) in
+      let whole : 2 ^ w ≡ 2 * half = pow-pred 2 some in
+      let square : 1 ≤ half * half = mul-pos (pow-pos {β = 2} (omega arith) (w - 1)) (pow-pos {β = 2} (omega arith) (w - 1)) in
+      lt-of-not-le
+      (λ (k : half ≤ r .high).
+      omega (arith, mul-le-mul-right b l, mul-le-mul-left half m, square, ap (λ (n : ℕ). half * n) whole, mul-le-mul-right (2 ^ w) k))
 
--- ---- numbers of two words
--- a product of two significands is below 2 ^ 126, which has the most digits that `omega` takes
-pub words-most : {s : Scale} → Scaled s → s .bound * s .bound ≤ 2 ^ 126
-words-most h = omega (arith, mul-le-mul (h .bound-most) (h .bound-most))
+  -- what `two_words` asks of a division: the quotient is a word
+  pub high-within : (n : TwoWords) {b d : ℕ} → b ≤ 2 ^ w → amountOf w n < b * d → n .high < d
+  high-within n {b} {d} m l = lt-of-not-le (λ (k : d ≤ n .high). omega (arith, mul-le-mul-right d m, mul-le-mul-right (2 ^ w) k))
 
--- one word
-pub word-is : (m : ℕ) → 0 * 2 ^ 64 + m ≡ m
-word-is m = omega arith
+  -- and where the high word is below the divisor, it is one
+  pub quotient-within : (n : TwoWords) {d : ℕ} → n .low < 2 ^ w → n .high < d → amountOf w n / d < 2 ^ w
+  quotient-within n {d} l m = div-lt-iff-lt-mul {k = d} {x = amountOf w n} {y = 2 ^ w} (omega arith) .1 (omega (arith, mul-le-mul-right (2 ^ w) m))
 
--- one that is below a word is its low word
-pub low-is : (n : TwoWords) → amount n < 2 ^ 64 → n .low ≡ amount n
-low-is n l = omega arith
+  -- a quotient and a rest by a power of two: the high word has a whole share of the quotient
+  module _ (n : TwoWords) {d j : ℕ} (few : j ≤ w) (is : d ≡ 2 ^ j) where
+    positive : 1 ≤ d
+    positive = omega (arith, is, pow-pos {β = 2} (omega arith) j)
 
--- a product of two powers is small enough to be compared with
-pub product-high : (r : TwoWords) {a b : ℕ} → amount r ≡ a * b → a ≤ 2 ^ 63 → b ≤ 2 ^ 63 → r .high < 2 ^ 63
-product-high r {b = b} e l m = lt-of-not-le (λ (k : 2 ^ 63 ≤ r .high). omega (arith, mul-le-mul-right b l))
+    abbrev share : ℕ
+    share = n .high * 2 ^ (w - j)
 
--- a quotient and a rest from the high word's share of the quotient
-module _ (n : TwoWords) (a : ℕ) {d : ℕ} (hd : 1 ≤ d) (share : n .high * 2 ^ 64 ≡ a * d) where
-  shares : amount n ≡ (a + n .low / d) * d + n .low % d
-  shares = omega (arith, share, div-add-mod' (n .low) d)
+    shared : n .high * 2 ^ w ≡ share * d
+    shared =
+        let sum : w ≡ w - j + j = omega arith in
+        let whole : 2 ^ w ≡ 2 ^ (w - j) * d = power-at 2 sum ∙ pow-add 2 (w - j) j ∙ ap (λ (v : ℕ). 2 ^ (w - j) * v) (sym is) in
+        omega (arith, ap (λ (v : ℕ). n .high * v) whole)
 
-  pub share-steps : a + n .low / d ≡ amount n / d
-  share-steps = sym (ap (λ (v : ℕ). v / d) shares ∙ digits-div (a + n .low / d) (mod-lt (n .low) hd))
+    shares : amountOf w n ≡ (share + n .low / d) * d + n .low % d
+    shares = omega (arith, shared, div-add-mod' (n .low) d)
 
-  pub share-rest : n .low % d ≡ amount n % d
-  share-rest = sym (ap (λ (v : ℕ). v % d) shares ∙ digits-mod (a + n .low / d) (mod-lt (n .low) hd))
+    pub share-steps : share + n .low / d ≡ amountOf w n / d
+    share-steps = sym (ap (λ (v : ℕ). v / d) shares ∙ digits-div (share + n .low / d) (mod-lt (n .low) positive))
 
--- what `two_words` asks of a division: the quotient is a word
-pub high-below : (n : TwoWords) {b d : ℕ} → b ≤ 2 ^ 63 → amount n < b * d → n .high < d
-high-below n {b} {d} m l = lt-of-not-le (λ (k : d ≤ n .high). omega (arith, mul-le-mul-right d m))
+    pub share-rest : n .low % d ≡ amountOf w n % d
+    share-rest = sym (ap (λ (v : ℕ). v % d) shares ∙ digits-mod (share + n .low / d) (mod-lt (n .low) positive))
 
 -- a test against a product
 module _ {t : Bool} {a p q : ℕ} (test : t ≡ ltb a p) (is : p ≡ q) where

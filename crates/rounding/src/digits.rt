@@ -1,14 +1,16 @@
-// Powers of the base, and how many digits a number has.
+// Powers of the base, how many digits a number has, and significands brought to all of them.
 use format::Scale;
 use format::Significand;
-use two_words::TwoWords;
-use two_words::quotient::divide;
-use two_words::sums::is_below;
 ghost use mathlib.Core.Path.{_≡_};
 ghost use Prim.Native.Nat.{_+_, _*_, _<_, _≤_, _^_};
-ghost use Rattle.two_words.specs.Amount.{amount};
 ghost use Rattle.format.specs.Formats.{Scaled};
-ghost use Rattle.rounding.specs.Digits.{Digits, factorOf};
+ghost use Rattle.rounding.specs.Digits.{Digits, Extended, factorOf};
+
+// A significand with more digits, and how many were added.
+pub struct Normal {
+    pub value: Significand,
+    pub shift: u32,
+}
 
 // The factor of a power that a bit of its exponent selects.
 fn factor(k: u32, bit: u32, power: u64) -> u64
@@ -89,14 +91,21 @@ pub fn digit_count(scale: Scale, n: Significand) -> u32
     count
 }
 
-// The digits of a number that has up to twice the digits of a significand: the lower ones are as many as a significand has.
-pub fn digit_count_twice(scale: Scale, n: TwoWords) -> u32
-    requires { ⌜ Scaled scale × (1 ≤ amount n) × (amount n < scale .bound * scale .bound) ⌝ }
-    ensures { λ r. ⌜ Digits (scale .base) (amount n) r ⌝ }
+// `m` with as many digits more as it lacks, but at most `most`.
+pub fn normalise(scale: Scale, m: Significand, most: u32) -> Normal
+    requires { ⌜ Scaled scale × (m < scale .bound) ⌝ }
+    ensures { λ r. ⌜ Extended scale m most (r .value) (r .shift) ⌝ }
 {
-    if is_below(n, scale.bound) {
-        return digit_count(scale, n.low);
+    if m == 0 {
+        return Normal {
+            value: 0,
+            shift: most,
+        };
     }
-    let upper = divide(n, scale.bound);
-    scale.digits + digit_count(scale, upper.quotient)
+    let lack = scale.digits - digit_count(scale, m);
+    let shift = if most < lack { most } else { lack };
+    Normal {
+        value: m * power(scale, shift),
+        shift: shift,
+    }
 }

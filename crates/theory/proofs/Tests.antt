@@ -1,5 +1,6 @@
 -- Laws of tests: what a test that passed or failed says, and how it is made.
 use Rattle.theory.proofs.Prelude.{ℕ, true, false, Bool, not, inl, inr, _⊎_, _≡_, sym, refl, arith}
+use mathlib.Core.Bool.{_||_}
 use Rattle.theory.specs.Tests.{_and_, _or_, unless}
 
 -- true is not false
@@ -47,6 +48,15 @@ pub or-neither : (a b : Bool) → a or b ≡ false → (a ≡ false) × (b ≡ f
 unfolding _or_
 or-neither true b h = absurd (never h)
 or-neither false b h = (refl, h)
+
+-- the same of the code's `|`
+pub either : (a b : Bool) → a || b ≡ true → (a ≡ true) ⊎ (b ≡ true)
+either true b h = inl refl
+either false b h = inr h
+
+pub neither : (a b : Bool) → a || b ≡ false → (a ≡ false) × (b ≡ false)
+neither true b h = absurd (never h)
+neither false b h = (refl, h)
 
 pub not-true : {t : Bool} → not t ≡ true → t ≡ false
 not-true {t = true} h = sym h

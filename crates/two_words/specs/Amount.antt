@@ -2,6 +2,10 @@
 use Prim.Native.Nat.{ℕ, _+_, _*_, _^_}
 use Rattle.two_words.specs.declared.TwoWords.{TwoWords}
 
--- the high word counts 2 ^ 64
+-- of words of w bits: the high word counts 2 ^ w
+abbrev pub amountOf : (w : ℕ) → TwoWords → ℕ
+amountOf w x = x .high * 2 ^ w + x .low
+
+-- of words of 64 bits, as the code has them
 abbrev pub amount : TwoWords → ℕ
-amount x = x .high * 2 ^ 64 + x .low
+amount = amountOf 64

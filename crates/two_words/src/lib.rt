@@ -1,7 +1,7 @@
-// Numbers of two words of 64 bits, for what is wider than a significand: products, sums, differences, orders, and quotients by one word.
+// Numbers of two words of 64 bits, for what is wider than a significand: products, orders, and quotients by one word.
+pub mod orders;
 pub mod product;
 pub mod quotient;
-pub mod sums;
 
 // The number high * 2^64 + low.
 pub struct TwoWords {

@@ -1,6 +1,6 @@
 -- From the digits that were taken to the cut of the value.
 use Rattle.theory.proofs.Prelude.{ℕ, _≤_, _<_, _+_, _^_, _*_, _-_, suc, zero, _%_, _/_, inl, inr, _⊎_, _≢_, _∙_, ap, _≡_, sym, refl, mul-le-mul-right, mul-le-mul-left, pow-zero, mul-pos, mul-lt-mul-of-pos-right, pow-succ', lt-of-mul-lt-mul-right, div-add-mod', eq-of-mul-eq-mul-right, le-of-mul-le-mul-right, mod-lt, add-suc, arith}
-use Rattle.rounding.proofs.Prelude.{Positional, place, pow-add, pow-pos, pow-half, Scale, Scaled, Location, Exact, Below, cutOf, located, located-exact, located-below, cut-is, power-at, least-bound}
+use Rattle.rounding.proofs.Prelude.{Positional, place, pow-add, pow-pos, pow-half, Scale, ScaledWithin, Location, Exact, Below, cutOf, located, located-exact, located-below, cut-is, power-at, least-bound}
 use Rattle.theory.proofs.Place.{place-fits, above-power}
 use Rattle.wide.specs.declared.long_division.Division.{Division}
 use Rattle.wide.proofs.Digits.{taken-exact}
@@ -95,7 +95,7 @@ module _ {β p : ℕ} (ok : Positional β p) where
       (located-below (n * β ^ up) D (λ z. omega (arith, mul-pos hn (pow-pos (ok .base) up))) small)
 
 -- at the first two ends all digits stand, or the place is the lowest
-pub ended-least : {s : Scale} {v : Division} → Scaled s → Ended s v → v .remainder ≢ 0 → (v .place ≡ 0) ⊎ (s .base ^ s .digits ≤ s .base * v .quotient)
+pub ended-least : {limit : ℕ} {s : Scale} {v : Division} → ScaledWithin limit s → Ended s v → v .remainder ≢ 0 → (v .place ≡ 0) ⊎ (s .base ^ s .digits ≤ s .base * v .quotient)
 ended-least {s} {v} h (all-digits l) r = inr (omega (arith, least-bound h, h .bound-power, mul-le-mul-left (s .base) l))
 ended-least h (lowest-place z) r = inl z
 ended-least h (no-rest z) r = absurd (r z)

@@ -1,8 +1,8 @@
--- The digits of a long division: the divisor above n, the digits by the definition and in groups, and how many there are.
-use Rattle.theory.proofs.Prelude.{ℕ, _≤_, _<_, _+_, _^_, _*_, _-_, suc, zero, _%_, _/_, _∙_, ap, _≡_, sym, mul-le-mul-right, mul-le-mul-left, pow-zero, mul-lt-mul-of-pos-right, pow-succ', lt-of-not-le, div-add-mod', div-lt-iff-lt-mul, mod-lt, pow-le-pow-left, arith}
-use lib.Arith.{digits-div, digits-mod}
-use Rattle.rounding.proofs.Prelude.{pow-add, pow-mono, power-at, power-next}
-use Rattle.wide.specs.Division.{remains, digit, digits, Taken}
+-- The digits of a long division: the divisor above n, the digits by the definition, where they end, and how many there are.
+use Rattle.theory.proofs.Prelude.{ℕ, _≤_, _<_, _+_, _^_, _*_, _-_, suc, zero, inl, inr, _⊎_, _≢_, _%_, _/_, _∙_, ap, _≡_, sym, refl, mul-le-mul-right, mul-le-mul-left, pow-zero, mul-lt-mul-of-pos-right, pow-succ', lt-of-not-le, eq-or-lt-of-le, le-antisymm, subst, div-add-mod', div-lt-iff-lt-mul, mod-lt, pow-le-pow-left, arith}
+use Rattle.rounding.proofs.Prelude.{pow-add, pow-mono, power-next, Scale, Scaled, least-bound}
+use Rattle.wide.specs.declared.long_division.Division.{Division}
+use Rattle.wide.specs.Division.{remains, digit, digits, Taken, Ended, after, NoEnd, Divided, all-digits, lowest-place, no-rest}
 
 -- ---- the divisor above n
 pub align-first : (β d : ℕ) → d ≡ d * β ^ 0
@@ -40,14 +40,6 @@ module _ {w n : ℕ} (β : ℕ) (h : n < w) where
   digits-exact (suc j) =
       rw pow-succ' (omega (arith, ap (λ (v : ℕ). v * β) (digits-exact j), div-add-mod' (remains β w n j * β) w))
 
-  -- and nothing else does
-  pub digits-only : {q r : ℕ} (j : ℕ) → n * β ^ j ≡ q * w + r → r < w → (q ≡ digits β w n j) × (r ≡ remains β w n j)
-  digits-only {q} {r} j e l =
-      let same : q * w + r ≡ digits β w n j * w + remains β w n j = sym e ∙ digits-exact j in (
-        sym (digits-div q l) ∙ ap (λ (v : ℕ). v / w) same ∙ digits-div (digits β w n j) (remains-below j),
-        sym (digits-mod q l) ∙ ap (λ (v : ℕ). v % w) same ∙ digits-mod (digits β w n j) (remains-below j),
-      )
-
   pub taken-exact : {places q r k : ℕ} → Taken β n w places q r k → (n * β ^ (places - k) ≡ q * w + r) × (r < w)
   taken-exact {places} {k = k} t = rw (t .quotient, t .remainder) (digits-exact (places - k), remains-below (places - k))
 
@@ -58,37 +50,62 @@ module _ {w n : ℕ} (β : ℕ) (h : n < w) where
       let none : places - places ≡ 0 = omega arith in
       record { quotient = rw none; remainder = rw none; within = omega arith }
 
-  -- i digits more, taken together
-  pub taken-next : {places q r k : ℕ} (i : ℕ) → Taken β n w places q r k → i ≤ k
-      → Taken β n w places (q * β ^ i + r * β ^ i / w) (r * β ^ i % w) (k - i)
-  taken-next {places} {q} {r} {k} i t l =
-      let power : β ^ (places - (k - i)) ≡ β ^ (places - k) * β ^ i =
-      power-at β {j = places - k + i} (omega (arith, t .within)) ∙ pow-add β (places - k) i in
-      let exact : n * β ^ (places - (k - i)) ≡ (q * β ^ i + r * β ^ i / w) * w + r * β ^ i % w =
-      rw power (omega (arith, ap (λ (v : ℕ). v * β ^ i) (taken-exact t .0), div-add-mod' (r * β ^ i) w)) in
-      let both = digits-only (places - (k - i)) exact (mod-lt (r * β ^ i) (omega arith)) in
-      record { quotient = both .0; remainder = both .1; within = omega (arith, t .within) }
+  -- one digit more
+  pub taken-next : {places q r k : ℕ} → Taken β n w places q r k → 1 ≤ k → Taken β n w places (q * β + r * β / w) (r * β % w) (k - 1)
+  unfolding digits remains
+  taken-next {places} {q} {r} {k} t l =
+      let more : places - (k - 1) ≡ suc (places - k) = omega (arith, t .within) in
+      record { quotient = rw (more, t .quotient, t .remainder) refl; remainder = rw (more, t .remainder) refl; within = omega (arith, t .within) }
 
-  -- the same by their unit, and what the division gave
-  pub taken-group : {places q r k unit d e : ℕ} (i : ℕ) → unit ≡ β ^ i → d ≡ r * unit / w → e ≡ r * unit % w → Taken β n w places q r k → i ≤ k
-      → Taken β n w places (q * unit + d) e (k - i)
-  taken-group i u f g t l = rw (f, g, u) (taken-next i t l)
+-- ---- where they end
+-- none of the three tests holds: this is no end
+pub not-ended : {s : Scale} {v : Division} → v .quotient < s .least → 1 ≤ v .place → v .remainder ≢ 0 → ¬ Ended s v
+not-ended l p r (all-digits h) = omega (arith, l, h)
+not-ended l p r (lowest-place e) = omega (arith, p, e)
+not-ended l p r (no-rest e) = r e
 
--- a group of digits is below its unit, and the quotient has room for it
-pub record Turn (unit bound w q r : ℕ) : Type 0 where
-  pub group : r * unit / w < unit
-  pub next : q * unit + r * unit / w < bound
+-- what was taken down to a place is what the definition has there
+taken-after : (s : Scale) {n w places : ℕ} (v : Division) → Taken (s .base) n w places (v .quotient) (v .remainder) (v .place)
+    → v ≡ after s n w places (places - v .place)
+taken-after s {places = places} v t =
+    let back : places - (places - v .place) ≡ v .place = omega (arith, t .within) in
+    rw (← t .quotient, ← t .remainder, back) refl
 
-pub turn-is : {unit bound w q r : ℕ} → 1 ≤ unit → (q + 1) * unit ≤ bound → r < w → Turn unit bound w q r
-turn-is h room l = let g = goes-into l h in record { group = g; next = omega (arith, g) }
+-- where that is no end, no place before the next digit is one
+pub no-end-next : {s : Scale} {n w places : ℕ} (v : Division) → Taken (s .base) n w places (v .quotient) (v .remainder) (v .place) → ¬ Ended s v
+    → NoEnd s n w places (places - v .place) → NoEnd s n w places (places - (v .place - 1))
+no-end-next {s} {n} {w} {places} v t e before i m = by (eq-or-lt-of-le upto)
+  where
+    upto : i ≤ places - v .place
+    upto = omega (arith, m, t .within)
+
+    by : (i ≡ places - v .place) ⊎ (i < places - v .place) → ¬ Ended s (after s n w places i)
+    by (inl h) = rw (h, ← taken-after s v t) e
+    by (inr h) = before i h
+
+-- the loop has one answer: whoever stops before the first end or after it does not meet its contract
+module _ {s : Scale} {n w places : ℕ} where
+  divided-le : {u v : Division} → Divided s n w places u → Divided s n w places v → places - u .place ≤ places - v .place
+  divided-le {u} {v} a b =
+      let less : places - u .place < places - v .place + 1 =
+      lt-of-not-le (λ (l : places - v .place + 1 ≤ places - u .place). a .first (places - v .place) (omega arith) (subst (Ended s) (taken-after s v (b .taken)) (b .ended))) in
+      omega arith
+
+  pub divided-only : {u v : Division} → Divided s n w places u → Divided s n w places v → u ≡ v
+  divided-only {u} {v} a b =
+      taken-after s u (a .taken) ∙ ap (after s n w places) (le-antisymm (divided-le a b) (divided-le b a)) ∙ sym (taken-after s v (b .taken))
+
+-- a digit more has room where not all stand
+pub fits-next : {s : Scale} {w q r : ℕ} → Scaled s → r < w → q < s .least → q * s .base + r * s .base / w < s .bound
+fits-next {s} h m l = omega (arith, least-bound h, mul-le-mul-right (s .base) l, goes-into {b = s .base} m (omega (arith, h .base-least)))
 
 -- each digit is one of the quotient's, but for the zeros before the first
-pub few-digits : {β n w places q r k : ℕ} (p : ℕ) → 2 ≤ β → 1 ≤ n → n < w → w < 2 ^ 32 * β → q < β ^ p → Taken β n w places q r k → places - k ≤ p + 32
-few-digits {β} {n} {w} {places} {q} {r} {k} p hβ hn h hw hq t =
-    let room : 2 ^ 32 * β ≤ β ^ 33 = rw (pow-succ' β 32) (omega (arith, mul-le-mul-right β (pow-le-pow-left hβ 32))) in
-    let wide : β ^ p * w ≤ β ^ p * β ^ 33 = mul-le-mul-left (β ^ p) (omega arith) in
+pub few-digits : {β n w places q r k : ℕ} (b p : ℕ) → 2 ≤ β → 1 ≤ n → n < w → w < 2 ^ b * β → q < β ^ p → Taken β n w places q r k → places - k ≤ p + b
+few-digits {β} {n} {w} {places} {q} {r} {k} b p hβ hn h hw hq t =
+    let room : 2 ^ b * β ≤ β ^ suc b = rw (pow-succ' β b) (omega (arith, mul-le-mul-right β (pow-le-pow-left hβ b))) in
+    let wide : β ^ p * w ≤ β ^ p * β ^ suc b = mul-le-mul-left (β ^ p) (omega arith) in
     let e = taken-exact β h t in
-    let less : β ^ (places - k) < β ^ (p + 33) =
-    rw (pow-add β p 33) (omega (arith, e .0, e .1, mul-le-mul-right (β ^ (places - k)) hn, mul-le-mul-right w hq)) in
-    let most : places - k < p + 33 = lt-of-not-le (λ (h : p + 33 ≤ places - k). omega (arith, pow-mono hβ h)) in
+    let less : β ^ (places - k) < β ^ (p + suc b) =
+    rw (pow-add β p (suc b)) (omega (arith, e .0, e .1, mul-le-mul-right (β ^ (places - k)) hn, mul-le-mul-right w hq)) in
+    let most : places - k < p + suc b = lt-of-not-le (λ (h : p + suc b ≤ places - k). omega (arith, pow-mono hβ h)) in
     omega arith

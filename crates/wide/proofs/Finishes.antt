@@ -1,7 +1,7 @@
 -- What `finish` asks of a cut, and the rounding of zero.
 use Rattle.theory.proofs.Prelude.{ℕ, _≤_, _<_, _^_, _*_, _-_, Bool, inl, _∙_, _≡_, sym, refl, zero-mul, arith}
 use native.Mathlib.Nat.{div-le-self}
-use Rattle.rounding.proofs.Prelude.{Positional, Direction, pow-pos, place-le, Scale, Scaled, cutOf, Rounds, positional}
+use Rattle.rounding.proofs.Prelude.{Positional, Direction, pow-pos, place-le, Scale, ScaledWithin, cutOf, Rounds, positional}
 use Rattle.theory.proofs.Wide.{wide-zero}
 use Rattle.theory.proofs.Round.{round-exact}
 use Rattle.theory.proofs.Marks.{mark-exactly}
@@ -11,8 +11,8 @@ use Rattle.rounding.proofs.Cuts.{cut-canonical}
 use Rattle.wide.proofs.Sizes.{greatest-below}
 
 -- what `finish` asks of a cut: its steps fit the digits, and its place is small where the value is
-pub finishes : {s : Scale} → Scaled s → (N D : ℕ) → 1 ≤ D → {c : Cut} → c ≡ cutOf (s .base) (s .digits) N D → (k : ℕ) → k ≤ 2 ^ 30
-    → N ≤ (s .base ^ s .digits - 1) * s .base ^ k → Scaled s × (c .steps < s .bound) × (c .place ≤ 2 ^ 30)
+pub finishes : {limit : ℕ} {s : Scale} → ScaledWithin limit s → (N D : ℕ) → 1 ≤ D → {c : Cut} → c ≡ cutOf (s .base) (s .digits) N D → (k : ℕ) → k ≤ 2 ^ 30
+    → N ≤ (s .base ^ s .digits - 1) * s .base ^ k → ScaledWithin limit s × (c .steps < s .bound) × (c .place ≤ 2 ^ 30)
 unfolding cutOf
 finishes h N D hD {c} e k m l =
     let ok = positional h in

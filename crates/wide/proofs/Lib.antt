@@ -3,6 +3,7 @@ pub mod Signs
 pub mod Sizes
 pub mod Finishes
 pub mod Sums
+pub mod FarSums
 pub mod Products
 pub mod Quotients
 pub mod Results

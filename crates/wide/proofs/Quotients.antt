@@ -1,62 +1,15 @@
 -- The quotient's exact value and its cut.
-use Rattle.theory.proofs.Prelude.{ℕ, _≤_, _<_, _+_, _^_, _*_, _-_, suc, zero, _%_, _/_, ⊎-elim, inl, inr, _⊎_, _≢_, _∙_, ap, _≡_, sym, refl, ap₂, subst, decLe, ℕ-discrete, mul-le-mul-right, mul-le-mul-left, pow-zero, mul-one, mul-pos, mul-lt-mul-of-pos-right, lt-of-mul-lt-mul-right, div-add-mod', mod-lt, le-of-mul-le-mul-left, le-div-iff-mul-le, le-ltb, eq-eqb, ne-eqb, arith}
-use native.Mathlib.Nat.{mul-div-mul-right, mul-right-comm}
-use lib.Arith.{digits-mod}
-use Rattle.rounding.proofs.Prelude.{Positional, step, pow-add, pow-pos, pow-mono, pow-half, Scale, Scaled, Below, cutOf, dropped, Digits, Location, dropped-made, located, located-scaled, located-below, positional, power-at, count-le, least-bound, power-one}
-use Rattle.theory.proofs.Place.{step-pos}
-use Rattle.rounding.proofs.Places.{Placed, cut-is, extend-small}
+use Rattle.theory.proofs.Prelude.{ℕ, _≤_, _<_, _+_, _^_, _*_, _-_, _%_, _/_, ⊎-elim, inl, inr, _⊎_, _≢_, _∙_, ap, _≡_, sym, ap₂, subst, decLe, ℕ-discrete, mul-le-mul-right, mul-le-mul-left, pow-zero, mul-pos, mul-lt-mul-of-pos-right, lt-of-mul-lt-mul-right, div-add-mod', mod-lt, le-of-mul-le-mul-left, le-div-iff-mul-le, le-ltb, eq-eqb, ne-eqb, arith}
+use Rattle.rounding.proofs.Prelude.{pow-add, pow-pos, pow-mono, pow-half, Scale, ScaledWithin, Below, cutOf, dropped, Location, dropped-made, located, located-below, positional, power-at, least-bound, power-one}
+use Rattle.rounding.proofs.Places.{Placed, cut-is}
 use Rattle.theory.specs.Units.{zeros}
 use Rattle.theory.specs.QuotientDigits.{digitsTaken, lacking, brought}
 use Rattle.theory.proofs.QuotientDigits.{Leads, Reach, leads-below, lacking-is, quotient-some, zeros-within, taken-is, reach-rest, reach-exact}
-use Rattle.wide.specs.Quotient.{Leading, Shifted, CutShifted, digitsFrom, digitsOf, digitsWorked}
+use Rattle.rounding.proofs.Normals.{cut-common, least-pos, leading-pos, leads}
+use Rattle.rounding.specs.Digits.{Leading, Shifted}
+use Rattle.wide.specs.Quotient.{CutShifted, digitsFrom, digitsOf, digitsWorked}
 
--- a factor that numerator and denominator share changes nothing
-pub cut-common : {β p : ℕ} → Positional β p → (N D t : ℕ) → 1 ≤ D → 1 ≤ t → cutOf β p (N * t) (D * t) ≡ cutOf β p N D
-unfolding cutOf
-cut-common {β} {p} ok N D t hD ht =
-    let size : ℕ = D * step β p (N / D) in
-    let rest : N * t % (size * t) ≡ N % size * t =
-    ap (λ (n : ℕ). n % (size * t)) (omega (arith, ap (λ (n : ℕ). n * t) (div-add-mod' N size)))
-    ∙ digits-mod (N / size) (mul-lt-mul-of-pos-right (mod-lt N (mul-pos hD (step-pos ok (N / D)))) ht) in
-    rw (mul-div-mul-right N D ht, mul-right-comm D t (step β p (N / D)), mul-div-mul-right N size ht, rest, located-scaled (N % size * t) (size * t) (N % size) size 1 t (omega arith) ht (omega arith) (omega arith))
-
-count-some : (β c : ℕ) {m : ℕ} → 1 ≤ m → m < β ^ c → 1 ≤ c
-count-some β zero some l = absurd (omega (arith, pow-zero β))
-count-some β (suc c) some l = omega arith
-
-module _ {s : Scale} (h : Scaled s) where
-  least-pos : 1 ≤ s .least
-  least-pos = omega (arith, h .least-power, pow-pos (h .base-least) (s .digits - 1))
-
-  pub leading-pos : {a : ℕ} → Leading s a → 1 ≤ a
-  leading-pos l = omega (arith, least-pos, l .least)
-
-  -- a significand with all its digits leads with a digit that is not 0
-  leads : {a : ℕ} → Leading s a → s .bound ≤ s .base * a
-  leads l = omega (arith, least-bound h, mul-le-mul-left (s .base) (l .least))
-
-  pub digits-fit : {m c : ℕ} → Digits (s .base) m c → m < s .bound → c ≤ s .digits
-  digits-fit {m} {c} d small = count-le (h .base-least) c (s .digits) (d .above) (omega (arith, h .bound-power))
-
-  shifted-power : {m c : ℕ} → Digits (s .base) m c → 1 ≤ m → m < s .bound → Shifted s m (m * s .base ^ (s .digits - c)) (s .digits - c)
-  shifted-power {m} {c} d some small =
-      let bound : s .bound ≡ s .base ^ s .digits = h .bound-power in
-      let fits : c ≤ s .digits = digits-fit d small in
-      let split : s .base ^ s .digits ≡ s .base ^ c * s .base ^ (s .digits - c) =
-      power-at (s .base) (omega arith) ∙ pow-add (s .base) c (s .digits - c) in
-      record {
-        is = refl;
-        leading = record {
-          least = le-of-mul-le-mul-left {k = s .base} (omega (arith, least-bound h, mul-le-mul-right (s .base ^ (s .digits - c)) (d .above))) (omega (arith, h .base-least));
-          most = omega (arith, extend-small (positional h) d (s .digits - c) (omega arith));
-        };
-        shift-most = omega (arith, h .digits-least, count-some (s .base) c some (d .below));
-      }
-
-  pub shifted : {m c : ℕ} → Digits (s .base) m c → 1 ≤ m → m < s .bound → {w : ℕ} → w ≡ s .base ^ (s .digits - c) → Shifted s m (m * w) (s .digits - c)
-  shifted {m} {c} d some small e =
-      rw e (shifted-power d some small)
-
+module _ {limit : ℕ} {s : Scale} (h : ScaledWithin limit s) where
   -- i digits more bring a to p digits before the point of a / b
   pub record Kept (a b i : ℕ) : Type 0 where
     pub below : a * s .base ^ i < b * s .bound
@@ -66,16 +19,16 @@ module _ {s : Scale} (h : Scaled s) where
     pub kept-less : b ≤ a → Kept a b (s .digits - 1)
     kept-less l =
         let unit : a * s .base ^ (s .digits - 1) ≡ a * s .least = ap (λ (v : ℕ). a * v) (sym (h .least-power)) in
-        let a-below : a < s .base * b = omega (arith, la .most, leads lb) in
+        let a-below : a < s .base * b = omega (arith, la .most, leads h lb) in
         record {
-          below = omega (arith, unit, ap (λ (v : ℕ). b * v) (least-bound h), mul-lt-mul-of-pos-right a-below least-pos);
+          below = omega (arith, unit, ap (λ (v : ℕ). b * v) (least-bound h), mul-lt-mul-of-pos-right a-below (least-pos h));
           above = omega (arith, ap (λ (v : ℕ). s .base * v) unit, ap (λ (v : ℕ). a * v) (least-bound h), mul-le-mul-right (s .bound) l);
         }
 
     pub kept-more : a < b → Kept a b (s .digits)
     kept-more l =
         let unit : a * s .base ^ s .digits ≡ a * s .bound = ap (λ (v : ℕ). a * v) (sym (h .bound-power)) in
-        let b-most : b ≤ s .base * a = omega (arith, lb .most, leads la) in
+        let b-most : b ≤ s .base * a = omega (arith, lb .most, leads h la) in
         record {
           below = omega (arith, unit, mul-lt-mul-of-pos-right {k = s .bound} l (omega (arith, la .most)));
           above = omega (arith, ap (λ (v : ℕ). s .base * v) unit, mul-le-mul-right (s .bound) b-most);
@@ -86,11 +39,11 @@ module _ {s : Scale} (h : Scaled s) where
 
     under-most : (e : ℕ) → 1 ≤ e → a < b * s .base ^ e
     under-most e l =
-        omega (arith, la .most, leads lb, base-times, mul-le-mul-left b (pow-mono (h .base-least) {i = 1} {j = e} l))
+        omega (arith, la .most, leads h lb, base-times, mul-le-mul-left b (pow-mono (h .base-least) {i = 1} {j = e} l))
 
     -- two powers less: below half
     pub under-below : (e : ℕ) → 2 ≤ e → located a (b * s .base ^ e) ≡ Below
-    under-below e l = located-below a (b * s .base ^ e) (λ z. omega (arith, least-pos, la .least)) (omega (arith, la .most, leads lb, base-times, mul-le-mul-left b (pow-half (h .base-least) {i = 1} {j = e} l)))
+    under-below e l = located-below a (b * s .base ^ e) (λ z. omega (arith, least-pos h, la .least)) (omega (arith, la .most, leads h lb, base-times, mul-le-mul-left b (pow-half (h .base-least) {i = 1} {j = e} l)))
 
     module _ (i : ℕ) (kept : Kept a b i) (high low : ℕ) where
       quotient-placed : (k : ℕ) → high - (low + i) ≡ k → Placed (s .base) (s .digits) (a * s .base ^ high) (b * s .base ^ low) k
@@ -124,7 +77,7 @@ module _ {s : Scale} (h : Scaled s) where
       quotient-drop j k e f =
           let n : ℕ = a * s .base ^ j in
           let unit : s .base ^ high ≡ s .base ^ j * s .base ^ (low + k) = power-at (s .base) (sym f) ∙ pow-add (s .base) j (low + k) in
-          let b-pos : 1 ≤ b = leading-pos lb in
+          let b-pos : 1 ≤ b = leading-pos h lb in
           cut-is (positional h) (mul-pos b-pos (pow-pos (h .base-least) low)) (n / b) (n % b) b 1 (s .base ^ (low + k))
           (quotient-placed k e) (omega arith) (pow-pos (h .base-least) (low + k))
           (omega (arith, ap (λ (v : ℕ). a * v) unit, ap (λ (v : ℕ). v * s .base ^ (low + k)) (div-add-mod' n b)))
@@ -135,13 +88,13 @@ module _ {s : Scale} (h : Scaled s) where
           → cutOf (s .base) (s .digits) (a * s .base ^ high) (b * s .base ^ low) ≡ record { steps = 0; place = 0; location = located a (b * s .base ^ e) }
       quotient-under e l f =
           let unit : s .base ^ low ≡ s .base ^ high * s .base ^ e = power-at (s .base) (sym f) ∙ pow-add (s .base) high e in
-          let b-pos : 1 ≤ b = leading-pos lb in
+          let b-pos : 1 ≤ b = leading-pos h lb in
           cut-is (positional h) (mul-pos b-pos (pow-pos (h .base-least) low)) 0 a (b * s .base ^ e) 1 (s .base ^ high)
           (quotient-placed 0 (omega arith)) (omega arith) (pow-pos (h .base-least) high) (omega arith)
           (rw (pow-zero, unit) (omega arith)) (under-most e l)
 
 -- the shifts go to the other side
-pub quotient-exact : {s : Scale} → Scaled s → {m n a b i j : ℕ} (up down : ℕ) → Shifted s m a i → Shifted s n b j → 1 ≤ n
+pub quotient-exact : {limit : ℕ} {s : Scale} → ScaledWithin limit s → {m n a b i j : ℕ} (up down : ℕ) → Shifted s m a i → Shifted s n b j → 1 ≤ n
     → cutOf (s .base) (s .digits) (a * s .base ^ (up + j)) (b * s .base ^ (down + i)) ≡ cutOf (s .base) (s .digits) (m * s .base ^ up) (n * s .base ^ down)
 quotient-exact {s} h {m} {n} {a} {b} {i} {j} up down sa sb some =
     ap₂ (cutOf β (s .digits)) numerator denominator
@@ -157,7 +110,7 @@ quotient-exact {s} h {m} {n} {a} {b} {i} {j} up down sa sb some =
     denominator = rw (sb .is, pow-add β down i, pow-add β i j) (omega arith)
 
 -- ---- the digits that are worked out
-module _ {s : Scale} (h : Scaled s) where
+module _ {limit : ℕ} {s : Scale} (h : ScaledWithin limit s) where
   pub leading-leads : {a : ℕ} → Leading s a → Leads (s .base) (s .digits) a
   leading-leads l = record { least = omega (arith, h .least-power, l .least); most = omega (arith, h .bound-power, l .most) }
 
@@ -224,13 +177,9 @@ cut-shifted {β} {a} {b} {n} {q} {r} after e f k g d =
     record { is = dropped-made (a * β ^ after) b (rw e at f) (k ∙ ap (λ (x : ℕ). located x b) (rw e at g)); count = rw (← e, ← f, ← g) d }
 
 -- both significands as they were brought to all their digits
-pub digits-of : {s : Scale} → Scaled s → {m n a b i j : ℕ} (up down : ℕ) → 1 ≤ m → 1 ≤ n → Shifted s m a i → Shifted s n b j
+pub digits-of : {limit : ℕ} {s : Scale} → ScaledWithin limit s → {m n a b i j : ℕ} (up down : ℕ) → 1 ≤ m → 1 ≤ n → Shifted s m a i → Shifted s n b j
     → digitsFrom (s .base) (s .digits) a b (up + j) (down + i) ≡ digitsOf (s .base) (s .digits) m n up down
 digits-of {s} h {m} up down some some′ sa sb =
     let la = shifted-lacking h some sa in
     let lb = shifted-lacking h some′ sb in
     rw (ne-eqb m 0 (λ e. omega arith), la .0, la .1, lb .0, lb .1)
-
--- a significand that is not below the least normal one lacks no digit
-pub shifted-none : {s : Scale} → Scaled s → {m : ℕ} → s .least ≤ m → m < s .bound → Shifted s m m 0
-shifted-none h {m} l k = record { is = sym (rw pow-zero (mul-one m)); leading = record { least = l; most = k }; shift-most = h .digits-least }

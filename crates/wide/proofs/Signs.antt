@@ -3,7 +3,6 @@ use Rattle.theory.proofs.Prelude.{ℕ, _≤_, _+_, _*_, _-_, suc, zero, true, f
 use native.Mathlib.Nat.{mul-zero}
 use lib.IntN.{+ℤ-idr}
 use Rattle.theory.specs.Signed.{signed}
-use Rattle.wide.specs.Sum.{Adds}
 use Rattle.theory.proofs.Integers.{size-signed, add-agree, add-differ, scale-signed}
 
 no-test : {A : Type 0} → false ≡ true → A
@@ -35,17 +34,19 @@ sum-none a false v = +ℤ-idr (signed a v)
 pub sub-times : (v w t : ℕ) → w ≤ v → v * t - w * t ≡ (v - w) * t
 sub-times v w t l = omega (arith, mul-sub t v w, mul-le-mul-right t l)
 
+-- v with the sign a and w with the sign b make n with the sign c, in any unit t
+pub record Adds (a : Bool) (v : ℕ) (b : Bool) (w : ℕ) (c : Bool) (n : ℕ) : Type 0 where
+  pub sum : (t : ℕ) → signed a (v * t) +ℤ signed b (w * t) ≡ signed c (n * t)
+
 -- the three sums of two signed magnitudes
 pub adds-agree : (a b : Bool) → Bool·beq a b ≡ true → (v w : ℕ) → Adds a v b w a (v + w)
-adds-agree a b e v w = record { sum = λ t. sum-agree a b e (v * t) (w * t) ∙ ap (signed a) (omega arith); most = omega arith }
+adds-agree a b e v w = record { sum = λ t. sum-agree a b e (v * t) (w * t) ∙ ap (signed a) (omega arith) }
 
 pub adds-differ : (a b : Bool) → Bool·beq a b ≡ false → (v w : ℕ) → w ≤ v → Adds a v b w a (v - w)
-adds-differ a b e v w l =
-    record { sum = λ t. sum-differ a b e (v * t) (w * t) (mul-le-mul-right t l) ∙ ap (signed a) (sub-times v w t l); most = omega arith }
+adds-differ a b e v w l = record { sum = λ t. sum-differ a b e (v * t) (w * t) (mul-le-mul-right t l) ∙ ap (signed a) (sub-times v w t l) }
 
 pub adds-exchanged : (a b : Bool) → Bool·beq a b ≡ false → (v w : ℕ) → v ≤ w → Adds a v b w b (w - v)
-adds-exchanged a b e v w l =
-    record { sum = λ t. sum-exchanged a b e (v * t) (w * t) (mul-le-mul-right t l) ∙ ap (signed b) (sub-times w v t l); most = omega arith }
+adds-exchanged a b e v w l = record { sum = λ t. sum-exchanged a b e (v * t) (w * t) (mul-le-mul-right t l) ∙ ap (signed b) (sub-times w v t l) }
 
 pub sum-most : (a b : Bool) (v w : ℕ) → natAbs (signed a v +ℤ signed b w) ≤ v + w
 sum-most a b v w = by (Bool·beq a b) refl (decLe w v)

@@ -1,16 +1,27 @@
--- The cut of a sum, where the numbers overlap and where they are far apart.
-use Rattle.theory.proofs.Prelude.{ℕ, _≤_, _<_, _+_, _^_, _*_, _-_, suc, true, false, Bool, cond, not, Bool·beq, ⊎-elim, inl, inr, _≢_, _∙_, ap, _≡_, sym, refl, ap₂, subst, mul-le-mul-right, mul-le-mul-left, pow-zero, mul-pos, mul-lt-mul-of-pos-right, lt-of-mul-lt-mul-right, le-antisymm, add-zero, le-of-mul-le-mul-left, arith, ℤ, _+ℤ_, natAbs, boolByte}
+-- The cut of a sum, where the numbers overlap.
+use Rattle.theory.proofs.Prelude.{ℕ, _≤_, _<_, _+_, _^_, _*_, _-_, _/_, _%_, true, false, Bool, not, Bool·beq, inr, _∙_, ap, _≡_, sym, refl, ap₂, subst, mul-le-mul-right, mul-le-mul-left, pow-zero, mul-lt-mul-of-pos-right, lt-of-mul-lt-mul-right, div-add-mod', mod-lt, le-of-mul-le-mul-left, arith, ℤ, _+ℤ_, natAbs}
 use native.Mathlib.Nat.{sub-zero}
-use Rattle.rounding.proofs.Prelude.{Positional, Canonical, Direction, signed, pow-add, pow-pos, pow-pred, pow-mono, pow-half, Scale, Scaled, Location, Exact, Below, Above, cutOf, Rounds, located, located-exact, located-below, located-above, located-scaled, cut-is, positional, power-at, least-bound}
+use lib.Arith.{digits-div}
+use Rattle.rounding.proofs.Prelude.{Direction, signed, pow-add, pow-pos, pow-pred, pow-mono, Scale, ScaledWithin, Unit, power-one, cutOf, Rounds, located, cut-is, positional, least-bound, bound-pos}
+use Rattle.theory.proofs.Tests.{never}
 use Rattle.theory.proofs.Integers.{size-signed}
 use Rattle.rounding.specs.declared.Cut.{Cut}
 use Rattle.rounding.specs.declared.Wide.{Wide}
 use Rattle.rounding.specs.declared.Rounding.{Rounding}
 use Rattle.wide.specs.Operand.{Bounded, sizeOf, valueOf}
-use Rattle.wide.specs.Sum.{Adds, InUnits, SumCut, RoundsZ, belowPower}
+use Rattle.wide.specs.declared.sum.UnitSum.{UnitSum}
+use Rattle.wide.specs.Sum.{InUnits, Short, Sized, above, below, SumCut, RoundsZ}
 use Rattle.wide.proofs.Sizes.{sum-size}
 use Rattle.wide.proofs.Finishes.{finishes}
-use Rattle.wide.proofs.Signs.{sum-agree, sum-differ, sum-none, sub-times, adds-agree, adds-differ}
+use Rattle.rounding.proofs.Normals.{normal-least}
+use Rattle.wide.proofs.Signs.{Adds, sub-times, adds-agree, adds-differ, adds-exchanged}
+
+-- two signs that differ
+other : (a b : Bool) → Bool·beq a b ≡ false → not a ≡ b
+other true true e = absurd (never e)
+other true false e = refl
+other false true e = refl
+other false false e = absurd (never e)
 
 -- a sign and a magnitude of z make its cut
 pub sum-cut-made : (s : Scale) {z : ℤ} {a : Bool} {c : Cut} (n : ℕ) → z ≡ signed a n → c ≡ cutOf (s .base) (s .digits) n 1 → SumCut s z a c
@@ -22,15 +33,8 @@ sum-cut-made s {z} {a} n e f =
     }
 
 -- ---- the numbers overlap: w is the power that brings x to the place of y
-module _ {s : Scale} (h : Scaled s) {x y : Wide} (hx : Bounded s x) (hy : Bounded s y) (gap : ℕ) {w : ℕ}
+module _ {limit : ℕ} {s : Scale} (h : ScaledWithin limit s) {x y : Wide} (hx : Bounded s x) (hy : Bounded s y) (gap : ℕ) {w : ℕ}
     (at : x .place ≡ y .place + gap) (pw : w ≡ s .base ^ gap) where
-  pub near-most : gap ≤ s .digits → x .significand * w + y .significand < s .bound * s .bound
-  near-most l =
-      let bound : s .bound ≡ s .base ^ s .digits = h .bound-power in
-      let w-most : w ≤ s .bound = omega (arith, pow-mono (h .base-least) l) in
-      let x-most : suc (x .significand) ≤ s .bound = omega (arith, hx .canonical .small) in
-      omega (arith, hy .canonical .small, mul-le-mul-left (x .significand) w-most, mul-le-mul-right (s .bound) x-most)
-
   near-scaled : sizeOf (s .base) x ≡ x .significand * w * s .base ^ y .place
   near-scaled = rw (at, pow-add, pw) (omega arith)
 
@@ -44,7 +48,7 @@ module _ {s : Scale} (h : Scaled s) {x y : Wide} (hx : Bounded s x) (hy : Bounde
 
 -- ---- the lower number in units of the higher place
 -- q steps of w = base ^ j and a rest of w, where q has all its digits
-pub unit-cut : {s : Scale} → Scaled s → {q r w : ℕ} (j place : ℕ) → w ≡ s .base ^ j → s .least ≤ q → q < s .bound → r < w
+pub unit-cut : {limit : ℕ} {s : Scale} → ScaledWithin limit s → {q r w : ℕ} (j place : ℕ) → w ≡ s .base ^ j → s .least ≤ q → q < s .bound → r < w
     → cutOf (s .base) (s .digits) ((q * w + r) * s .base ^ place) (s .base ^ 0) ≡ record { steps = q; place = place + j; location = located r w }
 unit-cut {s} h {q} {r} {w} j place e l m k =
     let B : ℕ = s .base ^ place in
@@ -63,19 +67,31 @@ unit-cut {s} h {q} {r} {w} j place e l m k =
 
 module _ {m v unit given taken rest : ℕ} {t : Bool} (u : InUnits m v unit t given taken rest) where
   -- so many units and the rest are the sum
-  pub units-add : (a b : Bool) → not (Bool·beq a b) ≡ t → taken ≤ given → Adds a (m * unit) b v a ((given - taken) * unit + rest)
-  units-add a b e l = by (Bool·beq a b) refl
+  pub units-sum : {n : ℕ} {c : Bool} (a b : Bool) → not (Bool·beq a b) ≡ t → Sized a given taken rest unit c n → Adds a (m * unit) b v c n
+  units-sum a b e (above l f g) = rw (f, g) (by (Bool·beq a b) refl)
     where
-      by : (c : Bool) → Bool·beq a b ≡ c → Adds a (m * unit) b v a ((given - taken) * unit + rest)
-      by true f =
-          let k = u .more (sym e ∙ ap not f) in
-          rw (k .1, sub-zero given, k .0) (adds-agree a b f (m * unit) v)
-      by false f =
-          let k = u .less (sym e ∙ ap not f) in
-          let most : taken * unit ≤ m * unit = mul-le-mul-right unit (omega (arith, k .1)) in
+      by : (x : Bool) → Bool·beq a b ≡ x → Adds a (m * unit) b v a ((given - taken) * unit + rest)
+      by true h =
+          let k = u .more (sym e ∙ ap not h) in
+          rw (k .1, sub-zero given, k .0) (adds-agree a b h (m * unit) v)
+      by false h =
+          let k = u .less (sym e ∙ ap not h) in
           let size : (given - taken) * unit + rest ≡ m * unit - v =
-          omega (arith, sub-times given taken unit l, ap (λ (n : ℕ). n * unit) (k .1), k .0) in
-          rw size (adds-differ a b f (m * unit) v (omega (arith, k .0)))
+          omega (arith, sub-times given taken unit l, mul-le-mul-right unit l, ap (λ (i : ℕ). i * unit) (k .1), k .0) in
+          rw size (adds-differ a b h (m * unit) v (omega (arith, mul-le-mul-right unit l, ap (λ (i : ℕ). i * unit) (k .1), k .0)))
+  units-sum a b e (below l f g) = rw (f, g) (by (Bool·beq a b) refl)
+    where
+      within : given ≤ taken
+      within = omega arith
+
+      by : (x : Bool) → Bool·beq a b ≡ x → Adds a (m * unit) b v (not a) ((taken - given) * unit - rest)
+      by true h = absurd (omega (arith, u .more (sym e ∙ ap not h) .1, l))
+      by false h =
+          let k = u .less (sym e ∙ ap not h) in
+          let next : (given + 1) * unit ≤ taken * unit = mul-le-mul-right unit (omega arith) in
+          let size : (taken - given) * unit - rest ≡ v - m * unit =
+          omega (arith, sub-times taken given unit within, mul-le-mul-right unit within, ap (λ (i : ℕ). i * unit) (k .1), k .0) in
+          rw (size, other a b h) (adds-exchanged a b h (m * unit) v (omega (arith, next, u .small, ap (λ (i : ℕ). i * unit) (k .1), k .0)))
 
   -- they are few
   pub units-most : {bound : ℕ} → m < bound → v < bound → given < 2 * bound
@@ -88,117 +104,109 @@ module _ {m v unit given taken rest : ℕ} {t : Bool} (u : InUnits m v unit t gi
           lt-of-mul-lt-mul-right unit {m = given} {n = 2 * bound}
           (omega (arith, u .more e .0, mul-le-mul-right unit h, mul-le-mul-left bound some))
 
--- ---- the numbers are far apart
--- a value is m steps and a rest, where m at k is in canonical form
-pub canonical-cut : {β p m k : ℕ} → Positional β p → Canonical β p m k → (r : ℕ) → r < β ^ k
-    → cutOf β p (m * β ^ k + r) 1 ≡ record { steps = m; place = k; location = located r (β ^ k) }
-canonical-cut {β} {p} {m} {k} ok c r l =
-    cut-is ok (omega arith) m r (β ^ k) 1 1
-    (record {
-      below = rw pow-add (omega (arith, mul-le-mul-right (β ^ k) (c .small)));
-      normal = ⊎-elim inl (λ (f : β ^ p ≤ β * m). inr (rw pow-add (omega (arith, mul-le-mul-right (β ^ k) f)))) (c .normal);
-    })
-    (omega arith) (omega arith) (omega arith) (omega arith) l
+-- ---- digits cancel, or there are few
+-- `least` units are `bound` at most one place apart, and `bound` of the place below further apart
+module _ {limit : ℕ} {s : Scale} (h : ScaledWithin limit s) {unit gap : ℕ} (u : Unit s unit gap) where
+  pub least-near : gap ≤ 1 → s .least * unit ≤ s .bound
+  least-near l = omega (arith, mul-le-mul-left (s .least) (pow-mono (h .base-least) l), ap (λ (i : ℕ). s .least * i) (u .is), ap (λ (i : ℕ). s .least * i) (power-one (s .base)), least-bound h)
 
--- y = 0
-pub far-none : {s : Scale} → Scaled s → {x : Wide} (y : Wide) → Bounded s x → y .significand ≡ 0
-    → SumCut s (valueOf (s .base) x +ℤ valueOf (s .base) y) (x .negative) (record { steps = x .significand; place = x .place; location = Exact })
-far-none {s} h {x} y hx e =
-    let none : sizeOf (s .base) y ≡ 0 = rw e (omega arith) in
-    sum-cut-made s (sizeOf (s .base) x)
-    (ap (λ (v : ℕ). valueOf (s .base) x +ℤ signed (y .negative) v) none ∙ sum-none (x .negative) (y .negative) (sizeOf (s .base) x))
-    (sym (rw (add-zero, located-exact 0 (s .base ^ x .place) refl) at (canonical-cut (positional h) (hx .canonical) 0 (pow-pos (h .base-least) (x .place)))))
+  module _ (apart : 2 ≤ gap) where
+    pub lower-power : unit / s .base ≡ s .base ^ (gap - 1)
+    lower-power =
+        let whole : unit ≡ s .base ^ (gap - 1) * s .base + 0 = u .is ∙ pow-pred (s .base) {k = gap} (omega arith) ∙ omega arith in
+        ap (λ (i : ℕ). i / s .base) whole ∙ digits-div (s .base ^ (gap - 1)) (omega (arith, h .base-least))
 
-module _ {s : Scale} (h : Scaled s) {x y : Wide} (hx : Bounded s x) (hy : Bounded s y) (gap : ℕ)
-    (at : x .place ≡ y .place + gap) (far : s .digits < gap) (some : 1 ≤ y .significand) where
-  y-below : sizeOf (s .base) y < s .base ^ (x .place - 1)
-  y-below =
-      omega (
-        arith,
-        pow-add (s .base) (s .digits) (y .place),
-        mul-lt-mul-of-pos-right (hy .canonical .small) (pow-pos (h .base-least) (y .place)),
-        pow-mono (h .base-least) {i = s .digits + y .place} {j = x .place - 1} (omega arith),
-      )
+    pub unit-lower : unit ≡ s .base * (unit / s .base)
+    unit-lower = u .is ∙ pow-pred (s .base) {k = gap} (omega arith) ∙ ap (λ (i : ℕ). s .base * i) (sym lower-power)
 
-  y-half : 2 * sizeOf (s .base) y < s .base ^ x .place
-  y-half = omega (arith, y-below, pow-half (h .base-least) {i = x .place - 1} {j = x .place} (omega arith))
+    pub least-lower : s .least * unit ≡ s .bound * (unit / s .base)
+    least-lower = omega (arith, ap (λ (i : ℕ). s .least * i) unit-lower, ap (λ (i : ℕ). i * (unit / s .base)) (least-bound h))
 
-  y-some : sizeOf (s .base) y ≢ 0
-  y-some e = omega (arith, mul-pos some (pow-pos (h .base-least) (y .place)))
+    pub lower-some : 2 ≤ unit / s .base
+    lower-some = omega (arith, lower-power, pow-mono (h .base-least) {i = 1} {j = gap - 1} (omega arith), power-one (s .base), h .base-least)
 
-  x-least : x .significand ≤ s .least → x .significand ≡ s .least
-  x-least l =
-      le-antisymm l
-      (⊎-elim (λ z. absurd (omega (arith, at, far)))
-      (λ (f : s .base ^ s .digits ≤ s .base * x .significand).
-      le-of-mul-le-mul-left {k = s .base} (omega (arith, f, least-bound h, h .bound-power)) (omega (arith, h .base-least)))
-      (hx .canonical .normal))
+  -- y in units, added to x, where that gives too few digits
+  module _ {x y : Wide} (hx : Bounded s x) (hy : Bounded s y) (at : x .place ≡ y .place + gap) {t : Bool} {r : UnitSum}
+      (v : InUnits (x .significand) (y .significand) unit t (r .given) (r .taken) (r .rest)) (few : r .given < s .least + r .taken) where
+    y-most : y .significand < s .bound
+    y-most = omega (arith, hy .canonical .small, h .bound-power)
 
-  least-some : 1 ≤ s .least
-  least-some = omega (arith, h .least-power, pow-pos (h .base-least) (s .digits - 1))
+    within : (c : Bool) → t ≡ c → r .taken * unit < s .bound + r .rest
+    within true e = omega (arith, v .less e .0, y-most)
+    within false e = omega (arith, ap (λ (i : ℕ). i * unit) (v .more e .1), y-most)
 
-  bound-two : 2 ≤ s .bound
-  bound-two = omega (arith, least-bound h, h .base-least, mul-le-mul-left (s .base) least-some)
+    enough : 2 ≤ gap → (c : Bool) → t ≡ c → (r .taken ≤ r .given) × (s .least * unit ≤ s .base * ((r .given - r .taken) * unit + r .rest))
+    enough apart false e =
+        let leads = mul-le-mul-right unit (normal-least h (hx .canonical) (omega (arith, at, apart))) in
+        let next : (r .given + 1) * unit ≤ s .least * unit = mul-le-mul-right unit (omega (arith, few, v .more e .1)) in
+        absurd (omega (arith, leads, next, v .more e .0, v .small))
+    enough apart true e =
+        let lower : ℕ = unit / s .base in
+        let k = v .less e in
+        let units : r .given * unit ≡ x .significand * unit = ap (λ (i : ℕ). i * unit) (k .1) in
+        let leads = mul-le-mul-right unit (normal-least h (hx .canonical) (omega (arith, at, apart))) in
+        let two = lower-some apart in
+        let some : s .bound ≤ s .bound * lower = omega (arith, mul-le-mul-left (s .bound) two) in
+        let less : r .taken < r .given + 1 =
+        lt-of-mul-lt-mul-right unit {m = r .taken} {n = r .given + 1} (omega (arith, k .0, v .small, y-most, some, least-lower apart, leads, units)) in
+        let order : r .taken ≤ r .given = omega (arith, less) in
+        let size : (r .given - r .taken) * unit + r .rest + y .significand ≡ x .significand * unit =
+        omega (arith, sub-times (r .given) (r .taken) unit order, mul-le-mul-right unit order, units, k .0) in
+        let room : lower + s .base ≤ s .base * lower = omega (arith, mul-le-mul-right lower (h .base-least), mul-le-mul-left (s .base) two) in
+        (order, omega (arith, ap (λ (i : ℕ). s .base * i) size, mul-le-mul-left (s .base) leads, mul-le-mul-left (s .base) y-most, ap (λ (i : ℕ). s .base * i) (least-lower apart), least-lower apart, mul-le-mul-left (s .bound) room))
 
-  same-location : located (s .base ^ (x .place - 1) - sizeOf (s .base) y) (s .base ^ (x .place - 1)) ≡ belowPower (s .base) (y .significand) gap
-  unfolding belowPower
-  same-location =
-      let unit : s .base ^ (x .place - 1) ≡ s .base ^ (gap - 1) * s .base ^ y .place =
-      power-at (s .base) (omega arith) ∙ pow-add (s .base) (gap - 1) (y .place) in
-      let m-most : y .significand ≤ s .base ^ (gap - 1) =
-      omega (arith, hy .canonical .small, pow-mono (h .base-least) {i = s .digits} {j = gap - 1} (omega arith)) in
-      located-scaled _ _ _ _ 1 (s .base ^ y .place) (omega arith) (pow-pos (h .base-least) (y .place))
-      (omega (arith, unit, sub-times (s .base ^ (gap - 1)) (y .significand) (s .base ^ y .place) m-most)) (omega (arith, unit))
+    pub units-short : Short s r unit gap
+    units-short = record { few = few; within = within t refl; small = v .small; enough = λ apart. enough apart t refl }
 
-  pub far-agree : Bool·beq (x .negative) (y .negative) ≡ true
-      → SumCut s (valueOf (s .base) x +ℤ valueOf (s .base) y) (x .negative) (record { steps = x .significand; place = x .place; location = Below })
-  far-agree e =
-      sum-cut-made s (sizeOf (s .base) x + sizeOf (s .base) y) (sum-agree (x .negative) (y .negative) e (sizeOf (s .base) x) (sizeOf (s .base) y))
-      (sym (canonical-cut (positional h) (hx .canonical) (sizeOf (s .base) y) (omega (arith, y-half))
-      ∙ ap (λ (l : Location). record { steps = x .significand; place = x .place; location = l }) (located-below _ _ y-some y-half)))
+-- the magnitudes that the code works out from them
+module _ {limit : ℕ} {s : Scale} (h : ScaledWithin limit s) {unit gap : ℕ} (u : Unit s unit gap) {r : UnitSum} (k : Short s r unit gap) where
+  steps-few : r .taken ≤ r .given → (r .given - r .taken) * unit + r .rest < s .least * unit
+  steps-few l =
+      let next : (r .given - r .taken + 1) * unit ≤ s .least * unit = mul-le-mul-right unit (omega (arith, k .few)) in
+      omega (arith, next, k .small)
 
-  -- x leads with more than the power: the number before it is a step away
-  pub far-differ : Bool·beq (x .negative) (y .negative) ≡ false → s .least < x .significand
-      → SumCut s (valueOf (s .base) x +ℤ valueOf (s .base) y) (x .negative) (record { steps = x .significand - 1; place = x .place; location = Above })
-  far-differ e l =
-      let n : ℕ = x .significand - 1 in
-      let B : ℕ = s .base ^ x .place in
-      let split : sizeOf (s .base) x ≡ (n + 1) * B = ap (λ (m : ℕ). m * B) (omega arith) in
-      let leads : s .base * s .least ≤ s .base * n = mul-le-mul-left (s .base) (omega arith) in
-      let before : Canonical (s .base) (s .digits) n (x .place) =
-      record { small = omega (arith, hx .canonical .small); normal = inr (omega (arith, least-bound h, h .bound-power)) } in
-      sum-cut-made s (n * B + (B - sizeOf (s .base) y))
-      (sum-differ (x .negative) (y .negative) e (sizeOf (s .base) x) (sizeOf (s .base) y) (omega (arith, y-half)) ∙ ap (signed (x .negative)) (omega (arith, y-half)))
-      (sym (canonical-cut (positional h) before (B - sizeOf (s .base) y) (omega (arith, y-some, y-half))
-      ∙ ap (λ (l : Location). record { steps = n; place = x .place; location = l }) (located-above _ _ (omega (arith, y-half)))))
+  pub above-most : gap ≤ 1 → r .taken ≤ r .given → (r .given - r .taken) * unit + r .rest < s .bound
+  above-most near l = omega (arith, steps-few l, least-near h u near)
 
-  -- x is a power: the numbers before it are nearer together
-  pub far-power : Bool·beq (x .negative) (y .negative) ≡ false → x .significand ≤ s .least → {l : Location} → l ≡ belowPower (s .base) (y .significand) gap
-      → SumCut s (valueOf (s .base) x +ℤ valueOf (s .base) y) (x .negative) (record { steps = s .bound - 1; place = x .place - 1; location = l })
-  far-power e l f =
-      let k : ℕ = x .place - 1 in
-      let B : ℕ = s .base ^ k in
-      let unit : s .base ^ x .place ≡ s .base * B = pow-pred (s .base) (omega arith) in
-      let split : sizeOf (s .base) x ≡ s .bound * B = ap₂ _*_ (x-least l) unit ∙ omega (arith, ap (λ (v : ℕ). v * B) (least-bound h)) in
-      let steps : s .bound * B ≡ (s .bound - 1 + 1) * B = ap (λ (v : ℕ). v * B) (omega (arith, bound-two)) in
-      let before : Canonical (s .base) (s .digits) (s .bound - 1) k =
-      record { small = omega (arith, bound-two, h .bound-power); normal = inr (omega (arith, bound-two, h .bound-power, mul-le-mul-right (s .bound - 1) (h .base-least))) } in
-      sum-cut-made s ((s .bound - 1) * B + (B - sizeOf (s .base) y))
-      (sum-differ (x .negative) (y .negative) e (sizeOf (s .base) x) (sizeOf (s .base) y) (omega (arith, y-below)) ∙ ap (signed (x .negative)) (omega (arith, y-below)))
-      (sym (canonical-cut (positional h) before (B - sizeOf (s .base) y) (omega (arith, y-some, y-below))
-      ∙ ap (λ (l : Location). record { steps = s .bound - 1; place = k; location = l }) (same-location ∙ sym f)))
+  pub below-most : r .given < r .taken → ((r .taken - r .given) * unit < s .bound + r .rest) × (r .rest ≤ (r .taken - r .given) * unit)
+  below-most l =
+      let first : (r .taken - r .given) * unit ≤ r .taken * unit = mul-le-mul-right unit (omega arith) in
+      let one : 1 * unit ≤ (r .taken - r .given) * unit = mul-le-mul-right unit (omega arith) in
+      (omega (arith, first, k .within), omega (arith, one, k .small))
 
-  -- both cases in which x keeps its place, selected by the signs
-  pub far-selected : (t : Bool) → Bool·beq (x .negative) (y .negative) ≡ t → (t ≡ false → s .least < x .significand) → {l : Location} → l ≡ cond t Below Above
-      → SumCut s (valueOf (s .base) x +ℤ valueOf (s .base) y) (x .negative) (record { steps = x .significand - boolByte (not t); place = x .place; location = l })
-  far-selected true e m f = rw (f, sub-zero (x .significand)) (far-agree e)
-  far-selected false e m f = rw f (far-differ e (m refl))
+  pub sized-most : gap ≤ 1 → {a c : Bool} {n : ℕ} → Sized a (r .given) (r .taken) (r .rest) unit c n → n < s .bound
+  sized-most near (above l f g) = omega (arith, g, above-most near l)
+  sized-most near (below l f g) = omega (arith, g, below-most l .0, bound-pos h)
+
+  -- in units of the place below
+  module _ (apart : 2 ≤ gap) where
+    abbrev lower : ℕ
+    lower = unit / s .base
+
+    abbrev steps : ℕ
+    steps = (r .given - r .taken) * s .base + r .rest / lower
+
+    pub lower-value : steps * lower + r .rest % lower ≡ (r .given - r .taken) * unit + r .rest
+    lower-value = omega (arith, ap (λ (i : ℕ). (r .given - r .taken) * i) (unit-lower h u apart), div-add-mod' (r .rest) lower)
+
+    pub steps-most : steps < s .bound
+    steps-most =
+        lt-of-mul-lt-mul-right lower {m = steps} {n = s .bound} (omega (arith, lower-value, steps-few (k .enough apart .0), least-lower h u apart))
+
+    pub steps-least : s .least ≤ steps
+    steps-least =
+        let rest : r .rest % lower < lower = mod-lt (r .rest) (omega (arith, lower-some h u apart)) in
+        let least : s .base * (s .least * lower) ≤ s .base * (steps * lower + r .rest % lower) =
+        omega (arith, k .enough apart .1, ap (λ (i : ℕ). s .base * i) lower-value, ap (λ (i : ℕ). s .least * i) (unit-lower h u apart)) in
+        let less : s .least < steps + 1 =
+        lt-of-mul-lt-mul-right lower {m = s .least} {n = steps + 1} (omega (arith, rest, le-of-mul-le-mul-left {k = s .base} least (omega (arith, h .base-least)))) in
+        omega (arith, less)
 
 -- ---- from the cut to the result
-module _ {s : Scale} (h : Scaled s) {x y : Wide} (hx : Bounded s x) (hy : Bounded s y) {negative : Bool} {c : Cut}
+module _ {limit : ℕ} {s : Scale} (h : ScaledWithin limit s) {x y : Wide} (hx : Bounded s x) (hy : Bounded s y) {negative : Bool} {c : Cut}
     (k : SumCut s (valueOf (s .base) x +ℤ valueOf (s .base) y) negative c) where
   -- what `finish` asks of it
-  pub sum-finishes : Scaled s × (c .steps < s .bound) × (c .place ≤ 2 ^ 30)
+  pub sum-finishes : ScaledWithin limit s × (c .steps < s .bound) × (c .place ≤ 2 ^ 30)
   sum-finishes =
       let n : ℕ = natAbs (valueOf (s .base) x +ℤ valueOf (s .base) y) in
       finishes h n 1 (omega arith) (k .size) (2 ^ 28 + 1) (omega arith)

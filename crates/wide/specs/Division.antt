@@ -27,14 +27,6 @@ pub record Start (β n d w t : ℕ) : Type 0 where
   pub most : w < 2 ^ 32 * β
   pub few : t < 40
 
--- the digits that are taken together: `count` of them, and unit = β ^ count. At most the digits of the format stand after q, and no
--- place below the lowest is reached
-pub record Grouped (s : Scale) (q place unit count : ℕ) : Type 0 where
-  pub power : unit ≡ s .base ^ count
-  pub some : 1 ≤ count
-  pub within : count ≤ place
-  pub room : (q + 1) * unit ≤ s .bound
-
 -- the digits of n / w at the places from `places` - 1 down to k are q, and r remains
 pub record Taken (β n w places q r k : ℕ) : Type 0 where
   pub quotient : q ≡ digits β w n (places - k)
@@ -47,12 +39,21 @@ pub data Ended (s : Scale) (v : Division) : Type 0 where
   lowest-place : v .place ≡ 0 → Ended s v
   no-rest : v .remainder ≡ 0 → Ended s v
 
--- the answer of the loop: what it has taken, how many digits with the zeros before the first, and why it ended
+-- n / w after i digits, of which `places` stand at or above the lowest place
+abbrev pub after : (s : Scale) (n w places i : ℕ) → Division
+after s n w places i = record { quotient = digits (s .base) w n i; remainder = remains (s .base) w n i; place = places - i }
+
+-- none of the first j of these is an end
+abbrev pub NoEnd : (s : Scale) (n w places j : ℕ) → Type 0
+NoEnd s n w places j = (i : ℕ) → i < j → ¬ Ended s (after s n w places i)
+
+-- the answer of the loop: what it has taken, down to the first place that is an end, and how many digits with the zeros before the first
 pub record Divided (s : Scale) (n w places : ℕ) (v : Division) : Type 0 where
   pub taken : Taken (s .base) n w places (v .quotient) (v .remainder) (v .place)
+  pub ended : Ended s v
+  pub first : NoEnd s n w places (places - v .place)
   pub fits : v .quotient < s .bound
   pub count : places - v .place ≤ s .digits + 32
-  pub ended : Ended s v
 
 -- N / D is q steps of β ^ k and r / w of a step more
 pub record Quotient (β N D w q r k : ℕ) : Type 0 where

@@ -1,25 +1,13 @@
--- Significands with all their digits, and how many digits of their quotient are worked out.
-use Prim.Native.Nat.{ℕ, _^_, _+_, _*_, _-_, _/_, _%_, _≤_, _<_}
+-- How many digits of a quotient are worked out.
+use Prim.Native.Nat.{ℕ, _^_, _+_, _*_, _-_, _/_, _%_}
 use mathlib.Core.Path.{_≡_}
 use mathlib.Core.Bool.{cond}
 use lib.Dec.{eqb, ltb}
 use Rattle.theory.specs.Units.{zeros}
 use Rattle.theory.specs.QuotientDigits.{digitsTaken, lacking, brought}
-use Rattle.format.specs.declared.Scale.{Scale}
 use Rattle.rounding.specs.declared.Cut.{Cut}
 use Rattle.rounding.specs.Cut.{dropped}
 
-pub record Leading (s : Scale) (a : ℕ) : Type 0 where
-  pub least : s .least ≤ a
-  pub most : a < s .bound
-
--- m with `shift` digits more has all digits
-pub record Shifted (s : Scale) (m a shift : ℕ) : Type 0 where
-  pub is : a ≡ m * s .base ^ shift
-  pub leading : Leading s a
-  pub shift-most : shift < s .digits
-
--- ---- the digits of a quotient
 -- A / B, where the first digit stands `high` less `low` places above the lowest: none where that is below it
 abbrev pub digitsFrom : (β p A B high low : ℕ) → ℕ
 digitsFrom β p A B high low = cond (ltb high low) 0 (digitsTaken β p B A 0 (high - low))

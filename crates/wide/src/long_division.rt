@@ -5,18 +5,14 @@ use rounding::Cut;
 use rounding::Rounding;
 use rounding::choice::finish;
 use rounding::choice::locate;
-use rounding::cutting::cut;
-use rounding::digits::power;
+use rounding::cutting::exact_cut;
 use theory::Direction;
 use theory::Location;
-use two_words::TwoWords;
-use two_words::product::product;
-use two_words::quotient::divide;
 ghost use mathlib.Core.Path.{_≡_};
 ghost use Prim.Native.Nat.{ℕ, _*_, _<_, _≤_, _^_};
 ghost use Rattle.format.specs.Formats.{Scaled};
 ghost use Rattle.rounding.specs.Cut.{cutOf, Rounds};
-ghost use Rattle.wide.specs.Division.{Divided, Ended, Grouped, Quotient, Start};
+ghost use Rattle.wide.specs.Division.{Divided, Ended, Quotient, Start};
 
 // The divisor d * base ^ place, which is above n.
 pub struct Aligned {
@@ -29,12 +25,6 @@ pub struct Division {
     pub quotient: Significand,
     pub remainder: u64,
     pub place: u32,
-}
-
-// Digits that are taken together: `count` of them, and unit = base ^ count.
-pub struct Group {
-    pub unit: Significand,
-    pub count: u32,
 }
 
 // The least divisor d * base ^ place above n: the first digit of n / d stands at the place below, or further below where n < d.
@@ -53,35 +43,13 @@ fn align(base: u32, n: u32, d: u32) -> Aligned
     Aligned { divisor, place }
 }
 
-// How many digits the next turn takes: as long as none stands, all that the format keeps, or all that are left; then one at a time.
-fn next_group(scale: Scale, quotient: Significand, place: u32) -> Group
-    requires { ⌜ Scaled scale × (quotient < scale .least) × (1 ≤ place) ⌝ }
-    ensures { λ r. ⌜ Grouped scale quotient place (r .unit) (r .count) ⌝ }
-{
-    if quotient != 0 {
-        return Group {
-            unit: scale.base as Significand,
-            count: 1,
-        };
-    }
-    if place < scale.digits {
-        return Group {
-            unit: power(scale, place),
-            count: place,
-        };
-    }
-    Group {
-        unit: scale.bound,
-        count: scale.digits,
-    }
-}
-
-// The digits of n / divisor, of which `places` stand at or above the lowest place. The loop ends where all digits of the format stand,
-// where the digit at the lowest place has been taken, or where nothing remains.
+// The digits of n / divisor, of which `places` stand at or above the lowest place, one each turn. The loop ends as soon as all digits of
+// the format stand, the digit at the lowest place has been taken, or nothing remains.
 fn take_digits(scale: Scale, n: u32, divisor: u64, places: u32) -> Division
     requires { ⌜ Scaled scale × (1 ≤ n) × (n < divisor) × (divisor < 2 ^ 32 * scale .base) ⌝ }
     ensures { λ r. ⌜ Divided scale n divisor places r ⌝ }
 {
+    let base = scale.base as u64;
     let mut quotient: Significand = 0;
     let mut remainder = n as u64;
     let mut place = places;
@@ -107,11 +75,10 @@ fn take_digits(scale: Scale, n: u32, divisor: u64, places: u32) -> Division
                 place,
             };
         }
-        let group = next_group(scale, quotient, place);
-        let digits = divide(product(remainder, group.unit), divisor);
-        quotient = quotient * group.unit + digits.quotient;
-        remainder = digits.remainder;
-        place = place - group.count;
+        let lowered = remainder * base;
+        quotient = quotient * base + lowered / divisor;
+        remainder = lowered % divisor;
+        place = place - 1;
     };
     division
 }
@@ -124,11 +91,7 @@ fn cut_division(scale: Scale, division: Division, divisor: u64) -> Cut
         → r ≡ cutOf (scale .base) (scale .digits) N D) ⌝ }
 {
     if division.remainder == 0 {
-        let quotient = TwoWords {
-            high: 0,
-            low: division.quotient,
-        };
-        return cut(scale, quotient, division.place, 0);
+        return exact_cut(scale, division.quotient, division.place);
     }
     let location = locate(division.remainder, divisor);
     Cut {

@@ -7,21 +7,22 @@ use rounding::Rounding;
 use rounding::Wide;
 use rounding::choice::finish;
 use rounding::choice::locate;
-use rounding::digits::digit_count;
+use rounding::digits::normalise;
 use rounding::digits::power;
 use theory::Direction;
 use theory::Location;
 use theory::Mark;
 use two_words::TwoWords;
+use two_words::orders::less;
 use two_words::product::product;
 use two_words::quotient::divide;
-use two_words::sums::less;
 ghost use mathlib.Core.Path.{_≡_};
 ghost use Prim.Native.Nat.{_+_, _*_, _<_, _≤_, _^_};
 ghost use Rattle.format.specs.Formats.{Scaled};
 ghost use Rattle.rounding.specs.Cut.{cutOf, Rounds};
 ghost use Rattle.rounding.specs.Location.{located};
-ghost use Rattle.wide.specs.Quotient.{Leading, Shifted, CutShifted, digitsFrom, digitsOf};
+ghost use Rattle.rounding.specs.Digits.{Leading};
+ghost use Rattle.wide.specs.Quotient.{CutShifted, digitsFrom, digitsOf};
 
 // The cut of a quotient, and how many of its digits were worked out.
 pub struct CountedCut {
@@ -33,24 +34,6 @@ pub struct CountedCut {
 pub struct CountedRounding {
     pub rounding: Rounding,
     pub digits: u32,
-}
-
-// A significand with all its digits, and how many were added.
-pub struct Normal {
-    pub value: Significand,
-    pub shift: u32,
-}
-
-// `m` with as many digits more as it lacks.
-fn normalise(scale: Scale, m: Significand) -> Normal
-    requires { ⌜ Scaled scale × (1 ≤ m) × (m < scale .bound) ⌝ }
-    ensures { λ r. ⌜ Shifted scale m (r .value) (r .shift) ⌝ }
-{
-    let shift = scale.digits - digit_count(scale, m);
-    Normal {
-        value: m * power(scale, shift),
-        shift: shift,
-    }
 }
 
 // a * unit divided by b, where the unit brings `after` digits behind the first before the point. Where nothing remains, the zeros that
@@ -178,8 +161,8 @@ pub fn quotient(
             least: scale.least,
             bound: scale.bound,
         };
-        let first = normalise(made, m);
-        let second = normalise(made, n);
+        let first = normalise(made, m, scale.digits);
+        let second = normalise(made, n, scale.digits);
         a = first.value;
         b = second.value;
         low = down + first.shift;

@@ -1,4 +1,5 @@
-// The sum. Numbers that overlap are added exactly; of numbers far apart only the location of the smaller one counts.
+// The sum, in one word. Of numbers that overlap the lower one is brought to units of the higher place, with a rest, or to the place below where
+// digits cancel; of numbers far apart only the location of the smaller one counts.
 use format::Scale;
 use format::Significand;
 use rounding::Cut;
@@ -7,32 +8,25 @@ use rounding::Wide;
 use rounding::choice::finish;
 use rounding::choice::locate;
 use rounding::choice::locate_twice;
-use rounding::cutting::cut;
+use rounding::cutting::exact_cut;
 use rounding::cutting::split;
 use rounding::digits::power;
 use theory::Direction;
 use theory::Location;
-use two_words::TwoWords;
 use two_words::WordQuotient;
-use two_words::product::product;
-use two_words::sums::add;
-use two_words::sums::less;
-use two_words::sums::subtract;
 ghost use mathlib.Core.Path.{_≡_};
-ghost use mathlib.Core.Bool.{cond};
-ghost use Prim.Native.Nat.{_+_, _*_, _<_, _≤_, _^_};
+ghost use Prim.Native.Nat.{_+_, _*_, _-_, _<_, _≤_, _^_};
 ghost use lib.IntN.{_+ℤ_};
-ghost use Rattle.two_words.specs.Amount.{amount};
 ghost use Rattle.format.specs.Formats.{Scaled};
 ghost use Rattle.rounding.specs.Cut.{cutOf};
 ghost use Rattle.rounding.specs.Digits.{Unit};
 ghost use Rattle.wide.specs.Operand.{Bounded, valueOf, wide};
-ghost use Rattle.wide.specs.Sum.{Adds, InUnits, SumCut, RoundsZ, belowPower};
+ghost use Rattle.wide.specs.Sum.{InUnits, Short, SumCut, UnitsCut, RoundsZ, belowPower};
 
-// A sign and a magnitude, in any unit.
-pub struct SignedSize {
+// A sign, and the cut of a magnitude.
+pub struct SignedCut {
     pub negative: bool,
-    pub size: TwoWords,
+    pub cut: Cut,
 }
 
 // The whole number of units given - taken, and a rest.
@@ -42,59 +36,9 @@ pub struct UnitSum {
     pub rest: u64,
 }
 
-// One of two numbers, selected word by word: made in two branches it would be branched on.
-fn select(test: bool, yes: TwoWords, no: TwoWords) -> TwoWords
-    ensures { λ r. ⌜ r ≡ cond test yes no ⌝ }
-{
-    let high = if test { yes.high } else { no.high };
-    let low = if test { yes.low } else { no.low };
-    TwoWords { high, low }
-}
-
-// The sum of two signed magnitudes of one unit. Both the sum and the difference are worked out.
-fn add_signed(a: bool, v: TwoWords, b: bool, w: TwoWords) -> SignedSize
-    requires { ⌜ (amount v + amount w < 2 ^ 128) × (w .high < 2 ^ 63) ⌝ }
-    ensures { λ r. ⌜ Adds a (amount v) b (amount w) (r .negative) (amount (r .size)) ⌝ }
-{
-    let total = add(v, w);
-    let mut greater = a;
-    let mut larger = v;
-    let mut smaller = w;
-    if less(v, w) {
-        greater = b;
-        larger = w;
-        smaller = v;
-    }
-    let difference = subtract(larger, smaller);
-    let same = a == b;
-    let negative = if same { a } else { greater };
-    let size = select(same, total, difference);
-    SignedSize {
-        negative: negative,
-        size: size,
-    }
-}
-
-// The sum of two numbers whose places differ by at most `digits`, exactly, in two words: where it does not have all its digits in units of
-// the higher place.
-fn exact_sum(scale: Scale, direction: Direction, x: Wide, y: Wide, gap: u32) -> Rounding
-    requires { ⌜ Scaled scale × Bounded scale x × Bounded scale y × (x .place ≡ y .place + gap) × (gap ≤ scale .digits) ⌝ }
-    ensures { λ r. ⌜ RoundsZ (scale .base) (scale .digits) direction (valueOf (scale .base) x +ℤ valueOf (scale .base) y) r ⌝ }
-{
-    let unit = power(scale, gap);
-    let high = product(x.significand, unit);
-    let low = TwoWords {
-        high: 0,
-        low: y.significand,
-    };
-    let exact = add_signed(x.negative, high, y.negative, low);
-    let cut = cut(scale, exact.size, y.place, 0);
-    finish(scale, direction, exact.negative, cut)
-}
-
 // `m` units with or without `part`, as units and a rest.
 fn add_part(m: Significand, part: WordQuotient, unit: Significand, differ: bool) -> UnitSum
-    requires { ⌜ (m < 2 ^ 63) × (part .quotient < 2 ^ 63) × (part .remainder < unit) ⌝ }
+    requires { ⌜ (m ≤ 2 ^ 63) × (part .quotient < 2 ^ 63) × (part .remainder < unit) ⌝ }
     ensures { λ r. ⌜ InUnits m (part .quotient * unit + part .remainder) unit differ (r .given) (r .taken) (r .rest) ⌝ }
 {
     let quotient = part.quotient;
@@ -122,11 +66,7 @@ fn near_cut(scale: Scale, steps: u64, rest: u64, place: u32, unit: Significand, 
         };
     }
     let base = scale.base as Significand;
-    let word = TwoWords {
-        high: 0,
-        low: steps,
-    };
-    let parts = split(scale, word, base, 1);
+    let parts = split(scale, steps, base, 1);
     let location = locate_twice(parts.remainder, base, rest, unit);
     Cut {
         steps: parts.quotient,
@@ -135,23 +75,68 @@ fn near_cut(scale: Scale, steps: u64, rest: u64, place: u32, unit: Significand, 
     }
 }
 
-// The sum of two numbers whose places differ by at most `digits`: the lower one is brought to the place of the higher one.
-fn near_sum(scale: Scale, direction: Direction, x: Wide, y: Wide, gap: u32) -> Rounding
-    requires { ⌜ Scaled scale × Bounded scale x × Bounded scale y × (x .place ≡ y .place + gap) × (gap ≤ scale .digits) ⌝ }
-    ensures { λ r. ⌜ RoundsZ (scale .base) (scale .digits) direction (valueOf (scale .base) x +ℤ valueOf (scale .base) y) r ⌝ }
+// The cut of the same where the steps have fewer digits than the format, since digits cancel or both numbers have few: the sum is one word
+// where the gap is at most 1, else it has all its digits in units of the place below. The sign is that of the units given, or the other one.
+fn short_cut(
+    scale: Scale,
+    negative: bool,
+    sum: UnitSum,
+    place: u32,
+    unit: Significand,
+    gap: u32,
+) -> SignedCut
+    requires { ⌜ Scaled scale × Unit scale unit gap × Short scale sum unit gap × (place < 2 ^ 28) ⌝ }
+    ensures { λ r. ⌜ UnitsCut scale negative sum unit place r ⌝ }
+{
+    if gap <= 1 {
+        let more = sum.taken <= sum.given;
+        let size = if more {
+            (sum.given - sum.taken) * unit + sum.rest
+        } else {
+            (sum.taken - sum.given) * unit - sum.rest
+        };
+        return SignedCut {
+            negative: negative == more,
+            cut: exact_cut(scale, size, place),
+        };
+    }
+    let base = scale.base as Significand;
+    let lower = unit / base;
+    let location = locate(sum.rest % lower, lower);
+    SignedCut {
+        negative: negative,
+        cut: Cut {
+            steps: (sum.given - sum.taken) * base + sum.rest / lower,
+            place: place + (gap - 1),
+            location: location,
+        },
+    }
+}
+
+// The same sum as that of `aligned_sum`, cut, where the places differ by at most `digits`: the lower number is brought to the place of the
+// higher one.
+fn near_sum(
+    scale: Scale,
+    a: bool,
+    m: Significand,
+    b: bool,
+    n: Significand,
+    place: u32,
+    gap: u32,
+) -> SignedCut
+    requires { ⌜ Scaled scale × Bounded scale (wide a m (place + gap)) × Bounded scale (wide b n place) × (gap ≤ scale .digits) ⌝ }
+    ensures { λ r. ⌜ SumCut scale (valueOf (scale .base) (wide a m (place + gap)) +ℤ valueOf (scale .base) (wide b n place)) (r .negative) (r .cut) ⌝ }
 {
     let unit = power(scale, gap);
-    let word = TwoWords {
-        high: 0,
-        low: y.significand,
-    };
-    let part = split(scale, word, unit, gap);
-    let sum = add_part(x.significand, part, unit, x.negative != y.negative);
+    let part = split(scale, n, unit, gap);
+    let sum = add_part(m, part, unit, a != b);
     if sum.given < scale.least + sum.taken {
-        return exact_sum(scale, direction, x, y, gap);
+        return short_cut(scale, a, sum, place, unit, gap);
     }
-    let cut = near_cut(scale, sum.given - sum.taken, sum.rest, y.place, unit, gap);
-    finish(scale, direction, x.negative, cut)
+    SignedCut {
+        negative: a,
+        cut: near_cut(scale, sum.given - sum.taken, sum.rest, place, unit, gap),
+    }
 }
 
 // Where base ^ (gap - 1) - m lies in base ^ (gap - 1).
@@ -214,6 +199,11 @@ pub fn aligned_sum(
     requires { ⌜ Scaled scale × Bounded scale (wide a m (place + gap)) × Bounded scale (wide b n place) ⌝ }
     ensures { λ r. ⌜ RoundsZ (scale .base) (scale .digits) direction (valueOf (scale .base) (wide a m (place + gap)) +ℤ valueOf (scale .base) (wide b n place)) r ⌝ }
 {
+    if gap <= scale.digits {
+        let near = near_sum(scale, a, m, b, n, place, gap);
+        let cut = near.cut;
+        return finish(scale, direction, near.negative, cut);
+    }
     let x = Wide {
         negative: a,
         significand: m,
@@ -224,9 +214,6 @@ pub fn aligned_sum(
         significand: n,
         place: place,
     };
-    if gap <= scale.digits {
-        return near_sum(scale, direction, x, y, gap);
-    }
     let cut = far_cut(scale, x, y, gap);
     finish(scale, direction, a, cut)
 }

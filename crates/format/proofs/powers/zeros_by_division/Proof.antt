@@ -14,10 +14,10 @@ abbrev μ-loop : tie.MeasureT-loop
 μ-loop base m factor rest₀ count₀ rest count = rest
 
 -- the count stays below the bits of a word
-room : {β m rest count : ℕ} → 2 ≤ β → m ≡ rest * β ^ count → 1 ≤ rest → m < 2 ^ 64 → count < 64
-room {β} {m} {rest} {count} h e l f =
+room : (w : ℕ) {β m rest count : ℕ} → 2 ≤ β → m ≡ rest * β ^ count → 1 ≤ rest → m < 2 ^ w → count < w
+room w {β} {m} {rest} {count} h e l f =
     let two : 2 ≤ 2 = omega arith in
-    lt-of-not-le (λ (k : 64 ≤ count). omega (arith, pow-mono two k, pow-le-pow-left h count, mul-le-mul-right (β ^ count) l))
+    lt-of-not-le (λ (k : w ≤ count). omega (arith, pow-mono two k, pow-le-pow-left h count, mul-le-mul-right (β ^ count) l))
 
 -- a digit 0 is taken off
 shorter : (β rest : ℕ) → 2 ≤ β → 1 ≤ rest → rest % β ≡ 0 → (rest / β < rest) × (1 ≤ rest / β) × (rest ≡ rest / β * β)
@@ -34,7 +34,7 @@ add-count : tie.Need-add-count Inv-loop μ-loop
 add-count c =
     let s = c .before .before in
     let i = c .before .loop .inv in
-    omega (arith, room {rest = c .before .loop .rest} {count = c .before .loop .count} (s .pre .0) (i .0) (i .1) (search needs))
+    omega (arith, room 64 {rest = c .before .loop .rest} {count = c .before .loop .count} (s .pre .0) (i .0) (i .1) (search needs))
 
 -- a turn of the loop
 turn : (c : tie.In-loop Inv-loop μ-loop) → let β = c .before .before .args .base in let rest = c .before .loop .rest in (rest / β < rest) × (1 ≤ rest / β) × (rest ≡ rest / β * β)

@@ -14,7 +14,7 @@ few c = omega (arith, c .pre .1, digits-most (c .pre .0))
 returns : tie.Need-returns
 returns c =
     let s = c .before .before in
-    one-shl (s .args .k) (omega (arith, few s)) ∙ ap (λ (b : ℕ). b ^ s .args .k) (sym (c .if1 .taken))
+    one-shl 64 (s .args .k) (omega (arith, few s)) ∙ ap (λ (b : ℕ). b ^ s .args .k) (sym (c .if1 .taken))
 
 -- ---- base 10
 decimal-power-requires : tie.Need-decimal-power-requires

@@ -1,26 +1,15 @@
 -- `wide::long_division::cut_division` meets its contract: at the first two ends the quotient is the steps of the cut; where nothing remains
 -- the value is a whole number, and its cut is known.
-use Rattle.theory.proofs.Prelude.{ℕ, _≤_, _+_, _^_, _*_, _∙_, ap, _≡_, sym, mul-le-mul-left, arith}
-use Rattle.rounding.proofs.Prelude.{Location, cutOf, positional}
+use Rattle.theory.proofs.Prelude.{_∙_, ap, sym, arith}
+use Rattle.rounding.proofs.Prelude.{Location, positional}
 use Rattle.wide.proofs.Cuts.{quotient-cut, exact-cut, ended-least}
 use Rattle.wide.proofs.long_division.cut_division.Statement.{statement}
 use Rattle.wide.proofs.long_division.cut_division.Tie as tie
 
-cut-requires : tie.Need-cut-requires
-cut-requires c κs =
-    let s = c .before .before in
-    let p = s .pre in
-    let some : 1 ≤ s .args .scale .bound = omega (arith, p .3) in
-    (p .0, omega (arith, p .3, mul-le-mul-left (s .args .scale .bound) some), omega (arith, p .4), omega arith)
-
 returns : tie.Need-returns
 returns c =
     λ N D hD e.
-    let s = c .before .before .before in
-    let β = s .args .scale .base in
-    let v = s .args .division in
-    let one : 0 * 2 ^ 64 + v .quotient ≡ v .quotient = omega arith in
-    c .cut .ensures ∙ ap (λ (n : ℕ). cutOf β (s .args .scale .digits) (n * β ^ v .place) (β ^ 0)) one ∙ sym (exact-cut (positional (s .pre .0)) hD e (c .before .if1 .taken))
+    c .exact-cut .ensures ∙ sym (exact-cut (positional (c .before .before .before .pre .0)) hD e (c .before .if1 .taken))
 
 returns-2 : tie.Need-returns-2
 returns-2 c =
@@ -34,4 +23,4 @@ returns-2 c =
 pub cut-division-spec : {M : Type 1} → statement M
 cut-division-spec =
     tie.close
-    (tie.spec cut-requires returns (λ c κs. let p = c .before .before .pre in omega (arith, p .1, p .2)) returns-2)
+    (tie.spec (λ c κs. let p = c .before .before .pre in (p .0, p .3)) returns (λ c κs. let p = c .before .before .pre in omega (arith, p .1, p .2)) returns-2)

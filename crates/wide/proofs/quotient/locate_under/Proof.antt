@@ -2,7 +2,8 @@
 use Rattle.theory.proofs.Prelude.{ℕ, _+_, _^_, _*_, _≢_, _∙_, ap, _≡_, sym, ltb-true, ltb-false, arith, needs}
 use Rattle.two_words.specs.Amount.{amount}
 use Rattle.rounding.proofs.Prelude.{located-below, located-half, located-above, power-at, power-one, unit-most, product-high}
-use Rattle.wide.proofs.Quotients.{leading-pos, under-below}
+use Rattle.rounding.proofs.Normals.{leading-pos}
+use Rattle.wide.proofs.Quotients.{under-below}
 use Rattle.wide.proofs.quotient.locate_under.Statement.{statement}
 use Rattle.wide.proofs.quotient.locate_under.Tie as tie
 

@@ -1,12 +1,12 @@
 -- `wide::quotient::quotient` meets its contract: the cut is that of the exact quotient.
-use Rattle.theory.proofs.Prelude.{ℕ, _≤_, _<_, _+_, _^_, _*_, true, false, Bool, ⊎-elim, _∙_, _≡_, refl, mul-pos, eq-eqb, ltb, ltb-false, arith, needs}
-use mathlib.Core.Bool.{_||_}
-use Rattle.theory.proofs.Tests.{never}
+use Rattle.theory.proofs.Prelude.{ℕ, _≤_, _<_, _+_, _^_, _*_, ⊎-elim, _∙_, _≡_, mul-pos, eq-eqb, arith, needs}
 use Rattle.rounding.specs.declared.Cut.{Cut}
-use Rattle.rounding.proofs.Prelude.{pow-pos, Scale, Scaled, cutOf, positional, digits-most}
-use Rattle.wide.specs.Quotient.{Shifted, digitsFrom, digitsOf}
+use Rattle.rounding.proofs.Prelude.{pow-pos, Scale, ScaledWithin, cutOf, positional, digits-most}
+use Rattle.rounding.specs.Digits.{Shifted}
+use Rattle.wide.specs.Quotient.{digitsFrom, digitsOf}
+use Rattle.rounding.proofs.Normals.{extended-shifted, shifted-none, shifted-at, neither-lacks}
 use Rattle.wide.proofs.Sizes.{shifted-size}
-use Rattle.wide.proofs.Quotients.{quotient-exact, digits-of, shifted-none}
+use Rattle.wide.proofs.Quotients.{quotient-exact, digits-of}
 use Rattle.wide.proofs.Finishes.{finishes, rounds-zero}
 use Rattle.wide.proofs.quotient.quotient.Statement.{statement}
 use Rattle.wide.proofs.quotient.quotient.Tie as tie
@@ -17,10 +17,6 @@ positive c = mul-pos (c .pre .2) (pow-pos (c .pre .0 .base-least) (c .args .down
 abbrev start : tie.Joined2 → tie.Start
 start c = c .before .before .before .before
 
-neither : (t u : Bool) → t || u ≡ false → (t ≡ false) × (u ≡ false)
-neither true u e = absurd (never e)
-neither false u e = (refl, e)
-
 -- both significands with all their digits: the shift of each goes to the other side
 record Brought (s : Scale) (m n a b up down high low : ℕ) : Type 0 where
   first-shift : ℕ
@@ -30,28 +26,28 @@ record Brought (s : Scale) (m n a b up down high low : ℕ) : Type 0 where
   high-is : high ≡ up + second-shift
   low-is : low ≡ down + first-shift
 
-module _ {s : Scale} (h : Scaled s) {m n a b up down high low : ℕ} (some : 1 ≤ n) (t : Brought s m n a b up down high low) where
+module _ {limit : ℕ} {s : Scale} (h : ScaledWithin limit s) {m n a b up down high low : ℕ} (some : 1 ≤ n) (t : Brought s m n a b up down high low) where
   exact-at : {c : Cut} → c ≡ cutOf (s .base) (s .digits) (a * s .base ^ high) (b * s .base ^ low) → c ≡ cutOf (s .base) (s .digits) (m * s .base ^ up) (n * s .base ^ down)
   exact-at e = (rw (t .high-is, t .low-is) at e) ∙ quotient-exact h up down (t .first) (t .second) some
 
   digits-at : {k : ℕ} → 1 ≤ m → k ≡ digitsFrom (s .base) (s .digits) a b high low → k ≡ digitsOf (s .base) (s .digits) m n up down
   digits-at l e = (rw (t .high-is, t .low-is) at e) ∙ digits-of h up down l some (t .first) (t .second)
 
-shifted-at : {s : Scale} {m a a′ shift : ℕ} → a ≡ a′ → Shifted s m a′ shift → Shifted s m a shift
-shifted-at e h = rw e h
+m-some : (c : tie.Joined2) → 1 ≤ start c .args .m
+m-some c = omega (arith, c .before .before .before .if1 .left)
 
 brought : (c : tie.Joined2) → let s = start c .args in Brought (s .scale) (s .m) (s .n) (c .if2 .a) (c .if2 .b) (s .up) (s .down) (c .if2 .high) (c .if2 .low)
 brought c =
     let s = start c in
     ⊎-elim
-    (λ w. record { first-shift = _; second-shift = _; first = shifted-at (w .5) (w .1 .ensures); second = shifted-at (w .6) (w .2 .ensures); high-is = w .8; low-is = w .7 })
+    (λ w. record { first-shift = _; second-shift = _; first = shifted-at (w .5) (extended-shifted (s .pre .0) (m-some c) (w .1 .ensures)); second = shifted-at (w .6) (extended-shifted (s .pre .0) (s .pre .2) (w .2 .ensures)); high-is = w .8; low-is = w .7 })
     (λ w.
-    let all = neither (ltb (s .args .m) (s .args .scale .least)) (ltb (s .args .n) (s .args .scale .least)) (w .0 .left) in
+    let all = neither-lacks (s .args .m) (s .args .n) (s .args .scale .least) (w .0 .left) in
     record {
       first-shift = 0;
       second-shift = 0;
-      first = shifted-at (w .1) (shifted-none (s .pre .0) (ltb-false _ _ (all .0)) (s .pre .1));
-      second = shifted-at (w .2) (shifted-none (s .pre .0) (ltb-false _ _ (all .1)) (s .pre .3));
+      first = shifted-at (w .1) (shifted-none (s .pre .0) (all .0) (s .pre .1));
+      second = shifted-at (w .2) (shifted-none (s .pre .0) (all .1) (s .pre .3));
       high-is = omega (arith, w .4);
       low-is = omega (arith, w .3);
     })
@@ -74,7 +70,7 @@ counted : (c : tie.After-quotient-cut) → let a = start (c .before) .args in
 counted c =
     let j = c .before in
     let p = start j .pre in
-    digits-at (p .0) (p .2) (brought j) (omega (arith, j .before .before .before .if1 .left)) (c .quotient-cut .ensures .1)
+    digits-at (p .0) (p .2) (brought j) (m-some j) (c .quotient-cut .ensures .1)
 
 pub quotient-spec : {M : Type 1} → statement M
 quotient-spec =
@@ -86,8 +82,8 @@ quotient-spec =
       rw (eq-eqb (s .args .m) 0 (c .if1 .taken)),
     ))
     (λ c κs. search needs) (λ c κs. search needs)
-    (λ c. let p = c .before .before .before .before .before .before .before .pre in omega (arith, p .5, c .before .before .normalise .ensures .shift-most, digits-most (p .0)))
-    (λ c. let p = c .before .before .before .before .before .before .before .before .pre in omega (arith, p .4, c .before .before .normalise2 .ensures .shift-most, digits-most (p .0)))
+    (λ c. let p = c .before .before .before .before .before .before .before .pre in omega (arith, p .5, c .before .before .normalise .ensures .within, digits-most (p .0)))
+    (λ c. let p = c .before .before .before .before .before .before .before .before .pre in omega (arith, p .4, c .before .before .normalise2 .ensures .within, digits-most (p .0)))
     (λ c κs. let b = brought c in (start c .pre .0, b .first .leading, b .second .leading, high-most c, low-most c))
     (λ c κs.
     let s = start (c .before .before) in

@@ -2,7 +2,7 @@
 use Rattle.theory.proofs.Prelude.{ℕ, _≤_, _<_, true, false, Bool, cond, not, _&&_, Bool·beq, ⊎-elim, _≡_, sym, refl, arith, leb, boolByte, needs, leb-true, leb-false}
 use Rattle.theory.proofs.Tests.{never}
 use Rattle.rounding.proofs.Prelude.{Location, Below, Above}
-use Rattle.wide.proofs.Sums.{far-none, far-power, far-selected}
+use Rattle.wide.proofs.FarSums.{far-none, far-power, far-selected}
 use Rattle.wide.proofs.sum.far_cut.Statement.{statement}
 use Rattle.wide.proofs.sum.far_cut.Tie as tie
 

@@ -1,7 +1,7 @@
 -- `wide::sum::near_cut` meets its contract: the steps have all their digits, or one more, which is dropped.
-use Rattle.theory.proofs.Prelude.{ℕ, _≤_, _<_, _+_, _^_, _*_, _/_, _%_, inl, _∙_, ap, ap₂, _≡_, sym, refl, div-add-mod', mod-lt, div-lt-iff-lt-mul, le-div-iff-mul-le, mul-le-mul-right, arith, needs}
+use Rattle.theory.proofs.Prelude.{ℕ, _≤_, _<_, _+_, _^_, _*_, _∙_, ap, ap₂, _≡_, sym, div-add-mod', mod-lt, div-lt-iff-lt-mul, le-div-iff-mul-le, mul-le-mul-right, arith, needs}
 use native.Mathlib.Nat.{add-assoc}
-use Rattle.rounding.proofs.Prelude.{Location, Unit, cutOf, power-one, unit-next, unit-most, unit-pos, least-bound, digits-most, word-is}
+use Rattle.rounding.proofs.Prelude.{Location, Unit, cutOf, power-one, unit-next, unit-most, unit-pos, least-bound, digits-most}
 use Rattle.wide.proofs.Sums.{unit-cut}
 use Rattle.wide.proofs.sum.near_cut.Statement.{statement}
 use Rattle.wide.proofs.sum.near_cut.Tie as tie
@@ -27,13 +27,8 @@ start c = c .before .before .before .before
 base-unit : (c : tie.Start) → Unit (c .args .scale) (c .args .scale .base) 1
 base-unit c = record { is = sym (power-one (c .args .scale .base)); most = c .pre .0 .digits-least }
 
-parts : (c : tie.After-split) → let a = start c .args in (c .split .result .quotient ≡ a .steps / a .scale .base) × (c .split .result .remainder ≡ a .steps % a .scale .base)
-parts c =
-    let a = start c .args in
-    (c .split .ensures .0 ∙ ap (λ (v : ℕ). v / a .scale .base) (word-is (a .steps)), c .split .ensures .1 ∙ ap (λ (v : ℕ). v % a .scale .base) (word-is (a .steps)))
-
 rest : (c : tie.After-split) → c .split .result .remainder < start c .args .scale .base
-rest c = let s = start c in omega (arith, parts c .1, mod-lt (s .args .steps) (unit-pos (s .pre .0) (base-unit s)))
+rest c = let s = start c in omega (arith, c .split .ensures .1, mod-lt (s .args .steps) (unit-pos (s .pre .0) (base-unit s)))
 
 locate-twice-requires : tie.Need-locate-twice-requires
 locate-twice-requires c κs =
@@ -50,9 +45,9 @@ returns-2 c =
     let some : 1 ≤ β = unit-pos (p .0) (base-unit s) in
     let q = d .split .result .quotient in
     let r = d .split .result .remainder in
-    let whole : q * β + r ≡ a .steps = ap₂ (λ (x y : ℕ). x * β + y) (parts d .0) (parts d .1) ∙ div-add-mod' (a .steps) β in
-    let least : a .scale .least ≤ q = omega (arith, parts d .0, le-div-iff-mul-le {x = a .scale .least} {y = a .steps} some .1 (omega (arith, least-bound (p .0), d .before .before .if1 .left))) in
-    let most : q < a .scale .bound = omega (arith, parts d .0, div-lt-iff-lt-mul {x = a .steps} {y = a .scale .bound} some .1 (omega (arith, p .3, mul-le-mul-right (a .scale .bound) (p .0 .base-least)))) in
+    let whole : q * β + r ≡ a .steps = ap₂ (λ (x y : ℕ). x * β + y) (d .split .ensures .0) (d .split .ensures .1) ∙ div-add-mod' (a .steps) β in
+    let least : a .scale .least ≤ q = omega (arith, d .split .ensures .0, le-div-iff-mul-le {x = a .scale .least} {y = a .steps} some .1 (omega (arith, least-bound (p .0), d .before .before .if1 .left))) in
+    let most : q < a .scale .bound = omega (arith, d .split .ensures .0, div-lt-iff-lt-mul {x = a .steps} {y = a .scale .bound} some .1 (omega (arith, p .3, mul-le-mul-right (a .scale .bound) (p .0 .base-least)))) in
     let value : q * (a .unit * β) + (r * a .unit + a .rest) ≡ a .steps * a .unit + a .rest = omega (arith, ap (λ (v : ℕ). v * a .unit) whole) in
     let below : r * a .unit + a .rest < a .unit * β = omega (arith, p .4, mul-le-mul-right (a .unit) (rest d)) in
     ap₂ (λ (k : ℕ) (l : Location). record { steps = q; place = k; location = l }) (add-assoc (a .place) (a .gap) 1) (c .locate-twice .ensures)
@@ -65,5 +60,5 @@ near-cut-spec =
     (tie.spec
     (λ c κs. let s = c .before .before in (omega (arith, unit-word s .1, s .pre .4), unit-word s .0))
     (λ c. omega (arith, place-fits (c .before .before .before))) returns (λ c. search needs)
-    (λ c κs. let s = c .before .before .before in (s .pre .0, base-unit s, record { one-word = inl refl; below = unit-pos (s .pre .0) (base-unit s) })) locate-twice-requires
+    (λ c κs. let s = c .before .before .before in (s .pre .0, base-unit s)) locate-twice-requires
     (λ c. omega (arith, place-fits (start (c .before)))) (λ c. omega (arith, place-fits (start (c .before)))) returns-2)
