@@ -1,18 +1,17 @@
 -- The values of patterns as whole multiples of 2 ^ -149: that of a finite pattern is the value of the number read, keys are in the
 -- order of the values, and what a list of patterns says of the list of its values.
-use Rattle.theory.proofs.Prelude.{ℕ, _≤_, _<_, _+_, _^_, _-_, _%_, true, false, Bool, cond, not, List, map, _∙_, ap, _≡_, sym, refl, ap₂, decLe, arith, eqb, ltb, pos, natAbs, length, getD, length-map, ltZ, ne-eqb, eq-eqb, le-ltb, lt-ltb, not-true, not-false}
+use Rattle.theory.proofs.Prelude.{ℕ, _≤_, _<_, _^_, _-_, _%_, true, false, Bool, not, List, map, _∙_, ap, _≡_, sym, refl, ap₂, decLe, arith, eqb, ltb, pos, natAbs, length, getD, length-map, ltZ, ne-eqb, eq-eqb, le-ltb, lt-ltb, not-true, not-false}
 use lib.ListN.{List·getD-map}
-use Rattle.theory.specs.Signed.{signed}
 use Rattle.theory.specs.Lists.{none}
 use Rattle.theory.specs.Tests.{_and_}
-use Rattle.theory.proofs.Integers.{above, below, neg-above, neg-below, size-signed}
+use Rattle.theory.proofs.Integers.{size-signed}
+use Rattle.theory.proofs.Order as order
 use Rattle.theory.proofs.Lists.{none-at}
 use Rattle.theory.proofs.Tests.{and-made}
 use Rattle.format.specs.Published.{binary32}
-use Rattle.format.proofs.Signed.{lt-true, lt-false}
 use Rattle.number.specs.Numbers.{value}
 use Rattle.binary32.specs.Patterns.{signOf, finite, notFinite, magnitudeRead, patternValue, patternValues, numberRead, keyOf}
-use Rattle.binary32.proofs.PatternOrder.{signedPattern, values-order}
+use Rattle.binary32.proofs.PatternOrder.{values-order}
 use Rattle.binary32.proofs.RoundTrips.{read-made, read-value}
 
 -- the number that is read has the value
@@ -48,24 +47,13 @@ pub all-finite : (l : List ℕ) → none notFinite l ≡ true → (k : ℕ) → 
 all-finite l h k m = finite-made (getD l k 0) (none-at notFinite 0 l h k m)
 
 -- ---- keys
--- a key is 2 ^ 31 more than the signed pattern
-key-parts : (n : ℕ) → above (signedPattern n) + 2 ^ 31 ≡ keyOf n + below (signedPattern n)
-key-parts n = by (signOf n)
-  where
-    by : (s : Bool) → above (signed s (n % 2 ^ 31)) + 2 ^ 31 ≡ cond s (2 ^ 31 - n % 2 ^ 31) (2 ^ 31 + n % 2 ^ 31) + below (signed s (n % 2 ^ 31))
-    by false = omega arith
-    by true = omega (arith, neg-above (pos (n % 2 ^ 31)), neg-below (pos (n % 2 ^ 31)))
-
 -- the order of the keys is that of the values
 pub key-order : (a b : ℕ) {x y : ℕ} → x ≡ keyOf a → y ≡ keyOf b → ltb x y ≡ ltZ (patternValue a) (patternValue b)
-key-order a b {x} {y} e f =
-    ap₂ ltb e f
-    ∙ by (ltZ (signedPattern a) (signedPattern b)) refl
-    ∙ sym (values-order a b)
+key-order a b e f =
+    ap₂ ltb e f ∙ order.key-order (2 ^ 31) (signOf a) (signOf b) (low a) (low b) ∙ sym (values-order a b)
   where
-    by : (t : Bool) → ltZ (signedPattern a) (signedPattern b) ≡ t → ltb (keyOf a) (keyOf b) ≡ t
-    by true g = lt-ltb (keyOf a) (keyOf b) (omega (arith, lt-true (signedPattern a) (signedPattern b) g, key-parts a, key-parts b))
-    by false g = le-ltb (keyOf a) (keyOf b) (omega (arith, lt-false (signedPattern a) (signedPattern b) g, key-parts a, key-parts b))
+    low : (n : ℕ) → n % 2 ^ 31 ≤ 2 ^ 31
+    low n = omega arith
 
 -- equal keys are those of equal values
 pub key-equal : (a b : ℕ) {x y : ℕ} → x ≡ keyOf a → y ≡ keyOf b

@@ -57,6 +57,9 @@ module _ (n : ℕ) {x : Number} (h : patternRead n ≡ gives x) where
   unfolding patternRead
   read-sign = trips.read-sign widths n h
 
+pub pattern-member : (n : ℕ) → finite n ≡ true → {x : Number} → x ≡ numberRead n → member binary32 x ≡ true
+pattern-member n h e = rw e (read-member n (read-made n h))
+
 -- ---- what is written has 32 bits, and a number that is not in format 2 is refused by 3
 pub written-made : (x : Number) → member binary32 x ≡ true → patternWritten x ≡ gives (patternOf x)
 unfolding patternWritten patternOf

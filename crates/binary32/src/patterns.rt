@@ -35,7 +35,7 @@ pub fn place_of(field: u32) -> u32
 }
 
 // The fraction, with its leading digit unless the field is 0.
-fn significand_of(field: u32, fraction: u32) -> Significand
+pub fn significand_of(field: u32, fraction: u32) -> Significand
     requires { ⌜ fraction < 2 ^ 23 ⌝ }
     ensures { λ r. ⌜ r ≡ cond (eqb field 0) fraction (2 ^ 23 + fraction) ⌝ }
 {

@@ -23,10 +23,9 @@ use Rattle.arithmetic.specs.Operations.{summed, subtracted, multiplied, divided
 use Rattle.arithmetic.proofs.Results.{sum-member, difference-member, product-member, quotient-member}
 use Rattle.binary32.specs.Patterns.{finite, numberRead, patternRead, answerWritten}
 use Rattle.binary32.proofs.Fields.{binary32-admitted, binary32-limits}
-use Rattle.binary32.proofs.RoundTrips.{Reads, reads, read-member, written-read}
+use Rattle.binary32.proofs.RoundTrips.{Reads, reads, read-member, pattern-member, written-read}
 use Rattle.binary32_arithmetic.specs.Calls.{Operation, Sum, Difference, Product, Quotient, roundedBy, onPatterns, patternCall, callRead}
 use Rattle.binary32_arithmetic.specs.declared.CallRead.the-variants.{Ready, Refused}
-use Rattle.binary32_arithmetic.proofs.ExactSums.{pattern-member}
 
 -- the call on numbers of format 2
 abbrev pub numberCall : Operation → (d : ℕ) (x y : Number) → Given Number

@@ -3,6 +3,4 @@ pub mod Halves
 pub mod Passes
 pub mod CallLaws
 pub mod SliceLaws
-pub mod ExactSums
-pub mod Splitting
 pub mod Agreement

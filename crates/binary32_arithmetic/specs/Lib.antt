@@ -1,4 +1,3 @@
 -- What the calls on patterns answer, and what a sum of slices writes.
 pub mod Calls
 pub mod Slices
-pub mod Exact

@@ -1,12 +1,9 @@
-// Arithmetic on binary32 patterns: sum, difference, product and quotient of two patterns, the sum of two slices, and exact comparisons
-// of sums.
-pub mod exact;
+// Arithmetic on binary32 patterns: sum, difference, product and quotient of two patterns, and the sum of two slices.
 pub mod operations;
 pub mod slices;
 
 use format::Refusal;
 use number::Number;
-use rounding::Wide;
 use theory::Direction;
 
 // What a call on two patterns is given: its direction and the numbers of the patterns, or why it is refused.
@@ -32,10 +29,4 @@ pub enum Examined {
 pub struct WrittenEntry {
     pub pattern: u32,
     pub inexact: usize,
-}
-
-// A sum of two patterns without an error: the sum rounded to nearest, and what that leaves.
-pub struct Parts {
-    pub high: Wide,
-    pub low: Wide,
 }

@@ -1,13 +1,11 @@
 -- The values of patterns are in the order of the patterns, taken as a sign and a number of w + t bits: different patterns have
 -- different values, but for those of plus and minus zero.
-use Rattle.theory.proofs.Prelude.{ℕ, _≤_, _<_, _+_, _^_, _*_, _-_, suc, zero, _%_, true, false, Bool, cond, ⊎-elim, _∙_, ap, _≡_, sym, refl, ap₂, decLe, mul-le-mul-right, mul-le-mul-left, mul-lt-mul-of-pos-right, eq-or-lt-of-le, arith, eqb, pos, negℤ, ltZ, ne-eqb}
+use Rattle.theory.proofs.Prelude.{ℕ, _≤_, _<_, _+_, _^_, _*_, _-_, suc, zero, _%_, cond, ⊎-elim, _∙_, ap, _≡_, sym, ap₂, decLe, mul-le-mul-right, mul-le-mul-left, mul-lt-mul-of-pos-right, eq-or-lt-of-le, arith, eqb, ltZ, ne-eqb}
 use native.Mathlib.Nat.{suc-mul, mod-eq-of-lt, div-eq-of-lt}
-use Rattle.theory.specs.Signed.{signed}
 use Rattle.theory.proofs.Powers.{pow-pos, pow-half}
-use Rattle.theory.proofs.Integers.{above, below, neg-above, neg-below}
+use Rattle.theory.proofs.Order.{Ordered, signed-order}
 use Rattle.format.specs.Given.{gives}
 use Rattle.format.proofs.GivenLaws.{gives-same}
-use Rattle.format.proofs.Signed.{Upto, Under, lt-true, lt-false, make-lt, make-ge}
 use Rattle.number.specs.declared.Number.{Number}
 use Rattle.number.specs.Numbers.{value, magnitude}
 use Rattle.number.proofs.Values.{member-unique}
@@ -82,38 +80,6 @@ module _ (w t a b : ℕ) where
   magnitude-most h = ⊎-elim (λ e. omega (arith, magnitude-same e)) (λ l. omega (arith, magnitude-less l)) (eq-or-lt-of-le h)
 
 -- ---- values
--- the magnitudes m′ and n′ are in the order of m and n
-pub record Ordered (m n m′ n′ : ℕ) : Type 0 where
-  less : m < n → m′ < n′
-  most : m ≤ n → m′ ≤ n′
-  more : n < m → n′ < m′
-  least : n ≤ m → n′ ≤ m′
-  none : m + n ≤ 0 → m′ + n′ ≤ 0
-  some : 0 < m + n → 0 < m′ + n′
-
-minus : (n : ℕ) → (above (negℤ (pos n)) ≡ 0) × (below (negℤ (pos n)) ≡ n)
-minus n = (neg-above (pos n), neg-below (pos n))
-
-module _ {m n m′ n′ : ℕ} (o : Ordered m n m′ n′) where
-  signed-under : (s t : Bool) → Under (signed s m) (signed t n) → Under (signed s m′) (signed t n′)
-  signed-under false false h = omega (arith, o .less (omega arith))
-  signed-under false true h = absurd (omega (arith, minus n))
-  signed-under true false h = omega (arith, minus m′, o .some (omega (arith, minus m)))
-  signed-under true true h = omega (arith, minus m′, minus n′, o .more (omega (arith, minus m, minus n)))
-
-  signed-upto : (s t : Bool) → Upto (signed t n) (signed s m) → Upto (signed t n′) (signed s m′)
-  signed-upto false false h = omega (arith, o .least (omega arith))
-  signed-upto false true h = omega (arith, minus n′)
-  signed-upto true false h = omega (arith, minus m′, o .none (omega (arith, minus m)))
-  signed-upto true true h = omega (arith, minus m′, minus n′, o .most (omega (arith, minus m, minus n)))
-
-  pub signed-order : (s t : Bool) → ltZ (signed s m′) (signed t n′) ≡ ltZ (signed s m) (signed t n)
-  signed-order s t = by (ltZ (signed s m) (signed t n)) refl
-    where
-      by : (c : Bool) → ltZ (signed s m) (signed t n) ≡ c → ltZ (signed s m′) (signed t n′) ≡ c
-      by true e = make-lt (signed s m′) (signed t n′) (signed-under s t (lt-true (signed s m) (signed t n) e))
-      by false e = make-ge (signed s m′) (signed t n′) (signed-upto s t (lt-false (signed s m) (signed t n) e))
-
 module _ (w t : ℕ) where
   -- the least pattern is that of zero
   nothing : unsignedOf w t 0 ≡ 0

@@ -7,6 +7,8 @@ use Rattle.theory.proofs.Tests.{and-left, and-right, and-made, refuted, unless-
 use Rattle.format.specs.Given.{Given, gives, refused, refusedAt, _then_}
 use Rattle.binary32.specs.Patterns.{notFinite}
 use Rattle.receivers.specs.Stretches.{calmAs, stretch, notRefused, endsWithin, finiteWithin, calmerRefusal, calmerLog, stretchOf, calmerStretch}
+use Rattle.receivers.specs.declared.Calmer.{Calmer}
+use Rattle.receivers.specs.Answers.{calmerGiven}
 use Rattle.receivers.specs.Spreads.{Logged}
 
 -- ---- a stretch
@@ -143,3 +145,14 @@ module _ (first second : List ℕ) (start n : ℕ) where
       → stretchOf k (stretch first start n) (stretch second start n) ≡ calmerStretch first second start n
   unfolding calmerStretch
   stretch-told e = ap (λ (k : Given ℕ). stretchOf k (stretch first start n) (stretch second start n)) e
+
+  -- the parts that the code hands back
+  pub first-told : gives 1 ≡ calmerLog first second start n → take (start + n - start) (drop start first) ≡ calmerStretch first second start n
+  first-told e = part-is first start n ∙ stretch-told e
+
+  pub second-told : gives 2 ≡ calmerLog first second start n → take (start + n - start) (drop start second) ≡ calmerStretch first second start n
+  second-told e = part-is second start n ∙ stretch-told e
+
+-- what calmer_log gives in one of its cases
+pub log-case : {r named : Calmer} {k : Given ℕ} → r ≡ named → calmerGiven r ≡ k → calmerGiven named ≡ k
+log-case e f = ap calmerGiven (sym e) ∙ f

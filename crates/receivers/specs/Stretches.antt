@@ -1,5 +1,6 @@
 -- Two logs of one pass: the spread of a list of values, a stretch of a log, and the calmer of two logs in a stretch.
-use Prim.Native.Nat.{ℕ, _+_}
+use Prim.Native.Nat.{ℕ, _+_, _*_}
+use mathlib.Core.Path.{_≡_}
 use mathlib.Core.Bool.{Bool, cond}
 use mathlib.Core.List.{List, [], _∷_}
 use lib.Dec.{leb, eqb}
@@ -83,3 +84,13 @@ stretchOf (refusedAt number index) first second = []
 -- what calmer_stretch hands back: the stretch of that log
 unfoldable pub calmerStretch : (first second : List ℕ) (start n : ℕ) → List ℕ
 calmerStretch first second start n = stretchOf (calmerLog first second start n) (stretch first start n) (stretch second start n)
+
+-- where entry n of a slice of 32-bit numbers stands: block and byte
+abbrev pub placeFrom : ℕ × ℕ → (n : ℕ) → ℕ × ℕ
+placeFrom p n = (p .0, n * 4 + p .1)
+
+-- the part stands in the memory of the log with the number given, from its entry `start` on; at a refusal the empty part may stand anywhere
+abbrev pub StandsIn : Given ℕ → (first second : ℕ × ℕ) (start : ℕ) (part : ℕ × ℕ) → Type 0
+StandsIn (gives log) first second start part = part ≡ placeFrom (cond (eqb log 1) first second) start
+StandsIn (refused number) first second start part = Unit
+StandsIn (refusedAt number index) first second start part = Unit

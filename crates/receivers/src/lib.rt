@@ -1,5 +1,5 @@
 // Two logs of one pass: which of them is calmer in a stretch, and that stretch of it.
-pub mod spread;
+mod spread;
 pub mod stretch;
 
 use format::Refusal;

@@ -1,7 +1,7 @@
 // The least and the greatest value of a list, and which of two lists has the smaller difference between them.
 use crate::Extremes;
 use binary32::order::is_below;
-use binary32_arithmetic::exact::sums_upto;
+use exact_sums::sums::sums_upto;
 ghost use mathlib.Core.Path.{_≡_};
 ghost use mathlib.Core.Bool.{cond};
 ghost use lib.Signed.{ltZ};
@@ -46,7 +46,7 @@ fn extremes(patterns: &[u32]) -> Extremes
 }
 
 // Is the spread of the first at most that of the second? M - m is at most N - n exactly where M + n is at most N + m.
-pub fn is_calm_as(first: &[u32], second: &[u32]) -> bool
+pub(crate) fn is_calm_as(first: &[u32], second: &[u32]) -> bool
     requires { ⌜ Logged (now first) × Logged (now second) ⌝ }
     ensures { λ r. ⌜ r ≡ calmAs (now (first .entry)) (now (second .entry)) ⌝ }
 {

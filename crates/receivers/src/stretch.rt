@@ -6,7 +6,7 @@ use binary32::finite::first_not_finite;
 use format::Refusal;
 ghost use mathlib.Core.Path.{_≡_};
 ghost use Rattle.receivers.specs.Answers.{stretchGiven, calmerGiven};
-ghost use Rattle.receivers.specs.Stretches.{endsWithin, finiteWithin, calmerRefusal, calmerLog, calmerStretch};
+ghost use Rattle.receivers.specs.Stretches.{endsWithin, finiteWithin, calmerRefusal, calmerLog, calmerStretch, StandsIn};
 ghost use Rattle.receivers.specs.Spreads.{Contains};
 
 // Is the stretch not empty, and does it end within the log? By subtraction, since start + length may overflow.
@@ -72,14 +72,16 @@ pub fn calmer_log(first: &[u32], second: &[u32], start: usize, length: usize) ->
     }
 }
 
-// That stretch of the calmer log: a part of the caller's own slice. Empty where calmer_refusal refuses.
+// That stretch of the calmer log, a part of that log's own memory. Where calmer_refusal refuses it is empty, and may be a part of either
+// log.
 pub fn calmer_stretch<'a>(
     first: &'a [u32],
     second: &'a [u32],
     start: usize,
     length: usize,
 ) -> &'a [u32]
-    ensures { λ r. ⌜ now r ≡ calmerStretch (now (first .entry)) (now (second .entry)) start length ⌝ }
+    ensures memory { λ r. ⌜ StandsIn (calmerLog (now (first .entry)) (now (second .entry)) start length) (first .entry .ptr) (second .entry .ptr) start (r .ptr) ⌝ }
+    ensures contents { λ r. ⌜ now r ≡ calmerStretch (now (first .entry)) (now (second .entry)) start length ⌝ }
 {
     match calmer_log(first, second, start, length) {
         Calmer::First => &first[start..start + length],

@@ -1,9 +1,9 @@
 -- Exact distances from a query: on natural numbers, and by the sum of two numbers against twice the query.
-use Rattle.theory.proofs.Prelude.{_≤_, _<_, _+_, true, false, Bool, not, _∙_, ap, _≡_, sym, arith, ℤ, _+ℤ_, _-ℤ_, ltZ, leZ, le-ltb, lt-ltb, ltb-true, ltb-false}
-use Rattle.theory.proofs.Integers.{above, below, sum-parts, diff-parts, size-by, parts-eq}
+use Rattle.theory.proofs.Prelude.{_≤_, _<_, _+_, true, false, Bool, not, _≡_, sym, arith, ℤ, _+ℤ_, _-ℤ_, ltZ, leZ, le-ltb, lt-ltb, ltb-true, ltb-false}
+use Rattle.theory.proofs.Integers.{above, below, sum-parts, diff-parts, size-by}
 use Rattle.theory.proofs.Multiples.{dist}
 use Rattle.theory.proofs.Tests.{denied}
-use Rattle.format.proofs.Signed.{Under, le-true, le-false, lt-true, lt-false}
+use Rattle.format.proofs.Signed.{le-true, le-false, lt-true, lt-false}
 use Rattle.saved_lines.specs.Offsets.{distance, nearer}
 
 -- the distance on natural numbers
@@ -46,24 +46,3 @@ module _ (q v w : ℤ) where
             sym (nearer-fails (omega (arith, distance-is v q, distance-is w q, lt-true w v h, le-true (q +ℤ q) (v +ℤ w) (sym f), sum-parts q q, sum-parts v w)))
         by false f =
             sym (nearer-made (omega (arith, distance-is v q, distance-is w q, lt-true w v h, le-false (q +ℤ q) (v +ℤ w) (sym f), sum-parts q q, sum-parts v w)))
-
-  -- ---- the smaller of two numbers is nearer exactly where v + w is above 2 q
-  module _ {b : Bool} where
-    pub smaller-nearer : b ≡ ltZ v w → b ≡ true → {t : Bool} → t ≡ ltZ (q +ℤ q) (v +ℤ w) → t ≡ nearer q v w
-    smaller-nearer e h {t} f = by t f
-      where
-        apart : Under v w
-        apart = lt-true v w (sym e ∙ h)
-
-        by : (t : Bool) → t ≡ ltZ (q +ℤ q) (v +ℤ w) → t ≡ nearer q v w
-        by true f =
-            sym (nearer-made (omega (arith, distance-is v q, distance-is w q, apart, lt-true (q +ℤ q) (v +ℤ w) (sym f), sum-parts q q, sum-parts v w)))
-        by false f =
-            sym (nearer-fails (omega (arith, distance-is v q, distance-is w q, apart, lt-false (q +ℤ q) (v +ℤ w) (sym f), sum-parts q q, sum-parts v w)))
-
-  -- of two equal numbers neither is nearer
-  pub equal-nearer : {a b : Bool} → a ≡ ltZ w v → a ≡ false → b ≡ ltZ v w → b ≡ false → false ≡ nearer q v w
-  equal-nearer e h f g = sym (nearer-fails (omega (arith, ap (λ (u : ℤ). distance u q) same)))
-    where
-      same : v ≡ w
-      same = parts-eq v w (omega (arith, lt-false w v (sym e ∙ h), lt-false v w (sym f ∙ g)))

@@ -2,7 +2,7 @@
 use Rattle.theory.proofs.Prelude.{ℕ, _≤_, _<_, suc, true, false, Bool, not, List, _∙_, _≡_, sym, ap₂, arith, pos, length, getD, ltZ}
 use Rattle.theory.specs.Tests.{_and_}
 use Rattle.theory.proofs.Lists.{neighbours-made, no-neighbours}
-use Rattle.format.proofs.Signed.{Upto}
+use Rattle.format.proofs.Signed.{Upto, make-lt}
 use Rattle.binary32.specs.Patterns.{finite, patternValue, patternValues}
 use Rattle.binary32.proofs.PatternValues.{all-finite, value-at, values-length}
 use Rattle.saved_lines.specs.Offsets.{falls, descends, equals, repeats}
@@ -45,6 +45,10 @@ module _ (l : List ℕ) where
 
     pub offsets-rise : Rising (patternValues l)
     offsets-rise = rises-strictly (patternValues l) (c .order) (c .strict)
+
+    pub rising-strictly : (j k : ℕ) → j < k → k < length l → ltZ (patternValue (getD l j 0)) (patternValue (getD l k 0)) ≡ true
+    rising-strictly j k h m =
+        make-lt (patternValue (getD l j 0)) (patternValue (getD l k 0)) (rw (← value-at l j, ← value-at l k) (offsets-rise j k h (omega (arith, values-length l))))
 
     pub rising : (j k : ℕ) → j ≤ k → k < length l → Upto (patternValue (getD l j 0)) (patternValue (getD l k 0))
     rising j k h m = rw (← value-at l j, ← value-at l k) (rising-upto (patternValues l) offsets-rise j k h (omega (arith, values-length l)))

@@ -1,11 +1,12 @@
 -- The tests of a binary search: on a list that ascends they pass from some position on.
-use Rattle.theory.proofs.Prelude.{ℕ, _≤_, _<_, _+_, true, false, Bool, not, List, _∙_, ap, _≡_, sym, refl, arith, ℤ, _+ℤ_, length, getD, ltZ, leZ, not-true, not-false}
+use Rattle.theory.proofs.Prelude.{ℕ, _≤_, _<_, _+_, true, false, Bool, not, List, _∙_, ap, _≡_, sym, refl, arith, ℤ, pos, _+ℤ_, length, getD, ltZ, leZ, not-true, not-false}
 use Rattle.theory.specs.Lists.{firstWhere}
 use Rattle.theory.specs.Tests.{_and_}
-use Rattle.theory.proofs.Integers.{sum-parts}
+use Rattle.theory.proofs.Integers.{sum-parts, parts-eq}
 use Rattle.theory.proofs.Lists.{first-passes}
 use Rattle.theory.proofs.Tests.{never, and-left, and-right}
 use Rattle.binary32.specs.Patterns.{finite, patternValue}
+use Rattle.binary32.proofs.PatternValues.{zero-value}
 use Rattle.format.proofs.Signed.{Upto, Under, le-true, le-false, lt-true, lt-false, make-le, make-ge}
 use Rattle.saved_lines.specs.declared.Sought.{Sought}
 use Rattle.saved_lines.specs.declared.Sought.the-variants.{AtLeast, Reaching, Beyond}
@@ -52,19 +53,28 @@ module _ (l : List ℕ) (c : Checked l) (s : Sought) (middle : ℕ) (h : middle 
       by true e = absurd (never (sym (passes-later s _ _ (rising l c k middle (omega arith) h) e) ∙ t))
       by false e = refl
 
--- ---- the test that was told
+-- ---- the test that was told: a number is compared as its sum with zero
+pub zero-finite : finite 0 ≡ true
+unfolding finite
+zero-finite = refl
+
+plus-zero : (n : ℕ) → patternValue n +ℤ patternValue 0 ≡ patternValue n
+plus-zero n =
+    ap (λ (z : ℤ). patternValue n +ℤ z) zero-value
+    ∙ parts-eq (patternValue n +ℤ pos 0) (patternValue n) (omega (arith, sum-parts (patternValue n) (pos 0)))
+
 module _ {s : Sought} (n : ℕ) where
   pub told-at-least : {x : ℕ} {t : Bool} → s ≡ AtLeast x → t ≡ ltZ (patternValue n) (patternValue x) → not t ≡ passesOf s n
   unfolding passesOf
   told-at-least e h = rw e (ap not h)
 
-  pub told-reaching : {q r : ℕ} {t : Bool} → s ≡ Reaching q r → t ≡ leZ (patternValue q) (patternValue n +ℤ patternValue r) → t ≡ passesOf s n
+  pub told-reaching : {q r : ℕ} {t : Bool} → s ≡ Reaching q r → t ≡ leZ (patternValue q +ℤ patternValue 0) (patternValue n +ℤ patternValue r) → t ≡ passesOf s n
   unfolding passesOf
-  told-reaching e h = rw e h
+  told-reaching {q} {r} e h = rw e (h ∙ ap (λ (v : ℤ). leZ v (patternValue n +ℤ patternValue r)) (plus-zero q))
 
-  pub told-beyond : {q r : ℕ} {t : Bool} → s ≡ Beyond q r → t ≡ leZ (patternValue n) (patternValue q +ℤ patternValue r) → not t ≡ passesOf s n
+  pub told-beyond : {q r : ℕ} {t : Bool} → s ≡ Beyond q r → t ≡ leZ (patternValue n +ℤ patternValue 0) (patternValue q +ℤ patternValue r) → not t ≡ passesOf s n
   unfolding passesOf
-  told-beyond e h = rw e (ap not h)
+  told-beyond {q} {r} e h = rw e (ap not (h ∙ ap (λ (v : ℤ). leZ v (patternValue q +ℤ patternValue r)) (plus-zero n)))
 
 pub reaching-finite : {s : Sought} {q r : ℕ} → s ≡ Reaching q r → soughtFinite s ≡ true → (finite q ≡ true) × (finite r ≡ true)
 reaching-finite {s} {q} {r} e h =

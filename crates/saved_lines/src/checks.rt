@@ -11,7 +11,7 @@ ghost use Rattle.saved_lines.specs.Offsets.{descends, repeats};
 ghost use Rattle.saved_lines.specs.Lines.{listGiven, linesChecked};
 
 // Is some offset above the next?
-pub fn is_descending(offsets: &[u32]) -> bool
+pub(crate) fn is_descending(offsets: &[u32]) -> bool
     ensures { λ r. ⌜ r ≡ descends (patternValues (now (offsets .entry))) ⌝ }
 {
     let mut i = 1;
@@ -39,7 +39,7 @@ fn is_repeating(offsets: &[u32]) -> bool
 }
 
 // All checks in their order. `finite`: are the numbers beside the list finite?
-pub fn check_lines(offsets: &[u32], finite: bool) -> Check
+pub(crate) fn check_lines(offsets: &[u32], finite: bool) -> Check
     ensures { λ r. ⌜ listGiven r ≡ linesChecked (now (offsets .entry)) finite ⌝ }
 {
     if offsets.len() == 0 {

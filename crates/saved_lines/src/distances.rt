@@ -1,7 +1,6 @@
 // Exact distances from a query, compared.
 use binary32::order::is_below;
-use binary32_arithmetic::exact::exceeds_twice;
-use binary32_arithmetic::exact::reaches_twice;
+use exact_sums::sums::sums_upto;
 ghost use mathlib.Core.Path.{_≡_};
 ghost use mathlib.Core.Bool.{true};
 ghost use lib.Signed.{ltZ};
@@ -10,7 +9,7 @@ ghost use Rattle.saved_lines.specs.Offsets.{nearer};
 
 // Is v nearer to the query than w, which is below it? It is where it is not above the query, and it is not where w is from the query on;
 // between them it is exactly where their sum is below twice the query.
-fn is_greater_nearer(v: u32, w: u32, query: u32) -> bool
+pub(crate) fn is_greater_nearer(v: u32, w: u32, query: u32) -> bool
     requires { ⌜ (finite v ≡ true) × (finite w ≡ true) × (finite query ≡ true) × (ltZ (patternValue w) (patternValue v) ≡ true) ⌝ }
     ensures { λ r. ⌜ r ≡ nearer (patternValue query) (patternValue v) (patternValue w) ⌝ }
 {
@@ -20,19 +19,5 @@ fn is_greater_nearer(v: u32, w: u32, query: u32) -> bool
     if !is_below(w, query) {
         return false;
     }
-    !reaches_twice(v, w, query)
-}
-
-// Is v nearer to the query than w? The smaller of two numbers is nearer exactly where their sum is above twice the query.
-pub fn is_nearer(v: u32, w: u32, query: u32) -> bool
-    requires { ⌜ (finite v ≡ true) × (finite w ≡ true) × (finite query ≡ true) ⌝ }
-    ensures { λ r. ⌜ r ≡ nearer (patternValue query) (patternValue v) (patternValue w) ⌝ }
-{
-    if is_below(w, v) {
-        return is_greater_nearer(v, w, query);
-    }
-    if is_below(v, w) {
-        return exceeds_twice(v, w, query);
-    }
-    false
+    !sums_upto(query, query, v, w)
 }

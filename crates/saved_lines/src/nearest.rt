@@ -3,7 +3,7 @@ use crate::Check;
 use crate::LineAnswer;
 use crate::Sought;
 use crate::checks::check_lines;
-use crate::distances::is_nearer;
+use crate::distances::is_greater_nearer;
 use crate::search::first_passing;
 use binary32::finite::is_finite;
 ghost use mathlib.Core.Path.{_≡_};
@@ -22,7 +22,7 @@ fn nearest_position(offsets: &[u32], query: u32) -> usize
         return 0;
     }
     if next < offsets.len() {
-        if is_nearer(offsets[next], offsets[next - 1], query) {
+        if is_greater_nearer(offsets[next], offsets[next - 1], query) {
             return next;
         }
     }

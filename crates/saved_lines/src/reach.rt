@@ -3,7 +3,7 @@ use crate::Check;
 use crate::LineAnswer;
 use crate::Sought;
 use crate::checks::check_lines;
-use crate::distances::is_nearer;
+use crate::distances::is_greater_nearer;
 use crate::search::first_passing;
 use binary32::finite::are_finite;
 use format::Refusal;
@@ -67,7 +67,7 @@ fn next_line(
     if right == end {
         return left - 1;
     }
-    if is_nearer(offsets[right], offsets[left - 1], query) {
+    if is_greater_nearer(offsets[right], offsets[left - 1], query) {
         return right;
     }
     left - 1

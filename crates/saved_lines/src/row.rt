@@ -3,7 +3,7 @@ use crate::Check;
 use crate::LineAnswer;
 use crate::checks::check_lines;
 use crate::checks::is_descending;
-use crate::distances::is_nearer;
+use crate::distances::is_greater_nearer;
 use binary32::finite::first_not_finite;
 use format::Refusal;
 ghost use mathlib.Core.Path.{_≡_};
@@ -28,7 +28,7 @@ fn walk(rest: &[u32], query: u32) -> Walked
 {
     let mut i = 1;
     while i < rest.len() {
-        if !is_nearer(rest[i], rest[i - 1], query) {
+        if !is_greater_nearer(rest[i], rest[i - 1], query) {
             return Walked {
                 ahead: i - 1,
                 looked: i + 1,

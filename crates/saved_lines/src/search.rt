@@ -1,7 +1,7 @@
 // A binary search in a list that ascends.
 use crate::Sought;
 use binary32::order::is_below;
-use binary32_arithmetic::exact::reaches;
+use exact_sums::sums::sums_upto;
 ghost use mathlib.Core.Path.{_≡_};
 ghost use mathlib.Core.Bool.{true};
 ghost use Rattle.theory.specs.Lists.{firstWhere};
@@ -16,13 +16,13 @@ fn passes(sought: Sought, offset: u32) -> bool
 {
     match sought {
         Sought::AtLeast(number) => !is_below(offset, number),
-        Sought::Reaching(query, distance) => reaches(offset, distance, query),
-        Sought::Beyond(query, distance) => !reaches(query, distance, offset),
+        Sought::Reaching(query, distance) => sums_upto(query, 0, offset, distance),
+        Sought::Beyond(query, distance) => !sums_upto(offset, 0, query, distance),
     }
 }
 
 // The first position that passes, or the length.
-pub fn first_passing(offsets: &[u32], sought: Sought) -> usize
+pub(crate) fn first_passing(offsets: &[u32], sought: Sought) -> usize
     requires { ⌜ Checked (now offsets) × (soughtFinite sought ≡ true) ⌝ }
     ensures { λ r. ⌜ r ≡ firstWhere (passesOf sought) (now (offsets .entry)) ⌝ }
 {

@@ -5,10 +5,10 @@ use Rattle.theory.proofs.Tests.{and-left, and-right, denied, granted, unless-pa
 use Rattle.format.specs.Published.{binary32}
 use Rattle.number.specs.Answers.{numberGiven}
 use Rattle.binary32.specs.Patterns.{finite, answerWritten}
+use Rattle.binary32.proofs.RoundTrips.{pattern-member}
 use Rattle.binary32_arithmetic.specs.Calls.{Sum, roundedBy, onPatterns}
 use Rattle.binary32_arithmetic.specs.Slices.{passes}
 use Rattle.binary32_arithmetic.proofs.CallLaws.{constant-operands, constant-format}
-use Rattle.binary32_arithmetic.proofs.ExactSums.{pattern-member}
 use Rattle.binary32_arithmetic.proofs.Halves.{halves-pass}
 use Rattle.binary32_arithmetic.proofs.slices.examine.Statement.{statement}
 use Rattle.binary32_arithmetic.proofs.slices.examine.Tie as tie

@@ -10,8 +10,8 @@ use Rattle.arithmetic.proofs.Prepared.{marked-number}
 use Rattle.arithmetic.proofs.Results.{sum-member}
 use Rattle.binary32.specs.Patterns.{finite}
 use Rattle.binary32.proofs.Fields.{binary32-admitted, binary32-limits}
+use Rattle.binary32.proofs.RoundTrips.{pattern-member}
 use Rattle.binary32_arithmetic.specs.Slices.{entryWritten, markedEntry}
-use Rattle.binary32_arithmetic.proofs.ExactSums.{pattern-member}
 use Rattle.binary32_arithmetic.proofs.slices.sum_entry.Statement.{statement}
 use Rattle.binary32_arithmetic.proofs.slices.sum_entry.Tie as tie
 

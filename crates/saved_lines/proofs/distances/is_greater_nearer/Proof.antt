@@ -11,7 +11,7 @@ returns-2 : tie.Need-returns-2
 returns-2 c = greater-above _ _ _ (c .before .before .before .before .pre .3) (c .before .is-below2 .ensures) (c .if2 .taken)
 
 returns-3 : tie.Need-returns-3
-returns-3 c = greater-nearer _ _ _ (c .before .before .before .before .before .pre .3) (c .reaches-twice .ensures)
+returns-3 c = greater-nearer _ _ _ (c .before .before .before .before .before .pre .3) (c .sums-upto .ensures)
 
 pub is-greater-nearer-spec : {M : Type 1} → statement M
 is-greater-nearer-spec =

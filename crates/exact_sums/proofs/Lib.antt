@@ -1,0 +1,3 @@
+-- Laws of exact comparison.
+pub mod Ranks
+pub mod Rests
