@@ -109,9 +109,30 @@ static answer row(const uint32_t *list, size_t length, const uint32_t *queries, 
     return r;
 }
 
+/* ---- what was met */
+/* How often each refusal was due, at 0 how often none was, and how many calls were answered on a list of the greatest length. */
+static uint64_t met[ZURKEB_STRIP_COUNT + 1], full_lists;
+
+static void note(answer wanted, size_t length) {
+    met[wanted.refusal]++;
+    full_lists += wanted.refusal == 0 && length == MOST;
+}
+
+static int all_were_met(void) {
+    static const uint32_t refusals[] = {12, 9, 13, 15, 14, 11, 16};
+    for (size_t i = 0; i < sizeof refusals / sizeof *refusals; i++) {
+        printf("%" PRIu64 " refused by %" PRIu32 ", ", met[refusals[i]], refusals[i]);
+        same("was never met", met[refusals[i]] == 0, 0);
+    }
+    printf("%" PRIu64 " answered on %d lines; ", full_lists, MOST);
+    same("no list of the greatest length was answered", full_lists == 0, 0);
+    return no_difference();
+}
+
 /* ---- comparisons */
 static void compare_nearest(const uint32_t *list, size_t length, uint32_t query) {
     answer wanted = nearest(list, length, query);
+    note(wanted, length);
     zurkeb_position_answer ours = zurkeb_nearest_line(list, length, query);
     same("nearest_line refusal", ours.refusal, wanted.refusal);
     same("nearest_line position", ours.position, wanted.number);
@@ -147,6 +168,7 @@ static void compare_written(const uint32_t *list, size_t length, uint32_t query,
 static void compare_within(const uint32_t *list, size_t length, uint32_t query, uint32_t reach, size_t room) {
     static bool found[MOST];
     answer wanted = reached(list, length, query, reach, room, found);
+    note(wanted, length);
     for (size_t i = 0; i < MOST; i++)
         out[i] = before[i] = random32();
     zurkeb_reach_answer ours = zurkeb_lines_within(list, length, query, reach, out, room);
@@ -161,6 +183,7 @@ static void compare_within(const uint32_t *list, size_t length, uint32_t query, 
 static void compare_row(const uint32_t *list, size_t length, const uint32_t *queries, size_t count, size_t room) {
     static uint32_t positions[MOST + 1];
     answer wanted = row(list, length, queries, count, room, positions);
+    note(wanted, length);
     for (size_t i = 0; i < MOST; i++)
         out[i] = before[i] = random32();
     zurkeb_row_answer ours = zurkeb_nearest_lines(list, length, queries, count, out, room);
@@ -284,6 +307,62 @@ static void compare_rows(size_t length) {
     compare_row(list, length, queries, count, room);
 }
 
+/* ---- lists of exactly 4,096 lines */
+static const uint32_t finite_values = 0xfeffffff, whole_range = 0xfeffffff / MOST;
+
+/* The finite pattern of the nth value from the least on. */
+static uint32_t nth_pattern(uint32_t n) {
+    return n < 0x7f7fffff ? 0xff7fffff - n : n - 0x7f7fffff;
+}
+
+/* A list that rises strictly: a line in each of 4,096 ranges side by side, each of this many values. With whole_range of them the list
+ * goes from the least value to the greatest, with some eight lines in each binade; with few it is dense, and half of the time around
+ * zero. */
+static void fill_ranges(uint32_t values) {
+    uint32_t first = random32() % (finite_values - MOST * values + 1);
+    if (values < whole_range && random32() % 2 == 0)
+        first = 0x7f7fffff - random32() % (MOST * values);
+    for (uint32_t i = 0; i < MOST; i++)
+        list[i] = nth_pattern(first + i * values + random32() % values);
+}
+
+/* The refusals 14, 11, 16 and 12 on a valid list, then 15, 13 and 9, for which two lines of it are changed. */
+static void compare_refusals(void) {
+    size_t line = random32() % (MOST - 1);
+    uint32_t lower = list[line], upper = list[line + 1];
+    const uint32_t falling[] = {upper, lower};
+    compare_within(list, MOST, lower, 0, 0);
+    compare_row(list, MOST, falling, 2, 3);
+    compare_row(list, MOST, falling, 2, 2);
+    compare_nearest(list, MOST + 1, lower);
+    list[line] = upper;
+    compare_all(MOST, lower);
+    list[line + 1] = lower;
+    compare_all(MOST, lower);
+    list[line] = not_finite[random32() % COUNT(not_finite)];
+    compare_all(MOST, lower);
+}
+
+/* A list that is spread over all values, and a dense one. */
+static void compare_full_lists(void) {
+    for (int dense = 0; dense < 2; dense++) {
+        fill_ranges(dense ? 1 + random32() % 16 : whole_range);
+        compare_all(MOST, some_query(list, MOST));
+        compare_within(list, MOST, 0, 0x7f7fffff, MOST);
+        compare_rows(MOST);
+        compare_refusals();
+    }
+}
+
+/* A row of 4,096 queries. */
+static void compare_full_row(void) {
+    fill_ranges(whole_range);
+    for (size_t i = 0; i < MOST; i++)
+        queries[i] = some_query(list, MOST);
+    qsort(queries, MOST, sizeof *queries, by_value);
+    compare_row(list, MOST, queries, MOST, MOST);
+}
+
 /* The lines at -1 and 2^25 around 2^24: the rounded differences are equal, the exact ones are not. */
 static void compare_rounded(void) {
     const uint32_t around[] = {0xbf800000, 0x4c000000};
@@ -355,9 +434,12 @@ int main(int count, char **arguments) {
     compare_orders();
     compare_edges();
     compare_row_orders();
+    compare_full_lists();
+    compare_full_row();
     for (uint64_t round = 0; round < rounds; round++) {
-        size_t length = round % 500 == 499 ? MOST - random32() % 3 : random32() % 24;
-        length = fill(list, length);
+        if (round % 500 == 499)
+            compare_full_lists();
+        size_t length = fill(list, random32() % 24);
         uint32_t query = some_query(list, length);
         compare_all(length, query);
         compare_rows(length);
@@ -365,5 +447,5 @@ int main(int count, char **arguments) {
         compare_all(length, query);
         compare_rows(length);
     }
-    return no_difference();
+    return all_were_met();
 }
