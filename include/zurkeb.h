@@ -193,6 +193,10 @@ zurkeb_number_answer zurkeb_uls(zurkeb_format format, zurkeb_number x);
 /* The greatest number of the format below x, and the least above; where that is zero, it has the sign of x. Refuse 1, 3, 5. */
 zurkeb_number_answer zurkeb_predecessor(zurkeb_format format, zurkeb_number x);
 zurkeb_number_answer zurkeb_successor(zurkeb_format format, zurkeb_number x);
+/* Are a and b within one step of the format: does b have the value of a, of its predecessor or of its successor? No number of the format
+ * lies strictly between them; either may stand first. Below a power of the base the step is smaller than above it: in decimal with 7 digits
+ * 1000.000 is within one step of 999.9999 and of 1000.001, not of 999.9998 or 1000.002. Both zeros are one value. Refuses 1, 3. */
+zurkeb_check_answer zurkeb_within_one_step(zurkeb_format format, zurkeb_number a, zurkeb_number b);
 
 /* The exact result, rounded once in the direction. An exact sum of zero is plus zero, in direction 4 minus zero, unless both numbers have
  * one sign, which zero keeps; a difference is the sum with b negated. A product or quotient has the signs' exclusive or, at zero too.

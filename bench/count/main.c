@@ -11,6 +11,7 @@ typedef zurkeb_rounded_answer (*our_call)(zurkeb_format, uint32_t, zurkeb_number
 typedef uint64_t (*pattern_call)(uint32_t, uint32_t, uint32_t);
 
 static pair pairs[SIMPLE];
+static zurkeb_number lines[SIMPLE]; /* each within two steps above its a */
 static uint32_t left[SIMPLE], right[SIMPLE], out[SIMPLE];
 
 static uint64_t numbers_pass(our_call call, zurkeb_format format) {
@@ -24,6 +25,13 @@ static uint64_t quotients_pass(zurkeb_format format) {
     uint64_t used = 0;
     for (int i = 0; i < SIMPLE; i++)
         used ^= zurkeb_quotient(format, ZURKEB_NEAREST_EVEN, pairs[i].a, pairs[i].b).number.significand;
+    return used;
+}
+
+static uint64_t one_step_pass(zurkeb_format format) {
+    uint64_t used = 0;
+    for (int i = 0; i < SIMPLE; i++)
+        used += zurkeb_within_one_step(format, pairs[i].a, lines[i]).yes;
     return used;
 }
 
@@ -46,6 +54,8 @@ static uint64_t pass(const char *name, zurkeb_format format) {
     for (int i = 0; i < 4; i++)
         if (strcmp(name, pattern_names[i]) == 0)
             return patterns_pass(pattern_calls[i]);
+    if (strcmp(name, "within_one_step") == 0)
+        return one_step_pass(format);
     if (strcmp(name, "sum_slices") == 0)
         return zurkeb_sum_slices(left, SIMPLE, right, SIMPLE, out, SIMPLE, ZURKEB_NEAREST_EVEN).inexact;
     return quotients_pass(format);
@@ -60,6 +70,9 @@ int main(int count, char **arguments) {
     for (int i = 0; i < SIMPLE; i++) {
         left[i] = (uint32_t)zurkeb_write_pattern(pairs[i].a);
         right[i] = (uint32_t)zurkeb_write_pattern(pairs[i].b);
+        lines[i] = pairs[i].a;
+        for (int k = i % 3; k > 0; k--)
+            lines[i] = zurkeb_successor(format, lines[i]).number;
     }
     for (long i = atol(arguments[4]); i > 0; i--)
         used ^= pass(arguments[1], format);

@@ -25,6 +25,10 @@ static inline uint32_t random32(void) {
     return (uint32_t)(state >> 16);
 }
 
+static inline uint64_t random64(void) {
+    return (uint64_t)random32() << 32 | random32();
+}
+
 /* The number of random rounds: the first argument, or the default. */
 static inline uint64_t rounds_of(int count, char **arguments, uint64_t otherwise) {
     return count > 1 ? strtoull(arguments[1], NULL, 10) : otherwise;

@@ -49,10 +49,6 @@ static division divided(zurkeb_format f, zurkeb_number a, zurkeb_number b) {
 }
 
 /* ---- random numbers of a format: with all digits, with few, small ones, zeros */
-static uint64_t random64(void) {
-    return (uint64_t)random32() << 32 | random32();
-}
-
 static zurkeb_number member(zurkeb_format f) {
     uint64_t least = power(f.base, f.digits - 1);
     uint32_t kind = random32() % 16, few = random32() % f.digits;

@@ -41,6 +41,13 @@ static outcome compare(zurkeb_format f, uint32_t direction, const zurkeb_number 
     return (outcome){r.refusal, {(uint32_t)r.order}};
 }
 
+static outcome within_one_step(zurkeb_format f, uint32_t direction, const zurkeb_number *x) {
+    (void)direction;
+    zurkeb_check_answer r = zurkeb_within_one_step(f, x[0], x[1]);
+    same("yes is 0 or 1", r.yes <= 1, 1);
+    return (outcome){r.refusal, {r.yes}};
+}
+
 static outcome quotient(zurkeb_format f, uint32_t direction, const zurkeb_number *x) {
     zurkeb_quotient_answer r = zurkeb_quotient(f, direction, x[0], x[1]);
     outcome o = {.refusal = r.refusal};
@@ -93,6 +100,7 @@ static const call calls[] = {
     {"quotient", 2, true, .other = quotient},
     {"check_number", 1, false, .other = check_number},
     {"compare", 2, false, .other = compare},
+    {"within_one_step", 2, false, .other = within_one_step},
     {"fast_two_sum", 2, true, .other = fast_two_sum},
     {"is_fast_two_sum", 5, false, .other = is_fast_two_sum},
 };

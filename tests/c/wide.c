@@ -18,10 +18,6 @@ enum { OPERATIONS = 4 };
 static const operation operations[OPERATIONS] = {zurkeb_sum, zurkeb_difference, zurkeb_product, rounded_quotient};
 static const char *const names[OPERATIONS] = {"sum", "difference", "product", "quotient"};
 
-static uint64_t random64(void) {
-    return (uint64_t)random32() << 32 | random32();
-}
-
 static void same_number(const char *what, zurkeb_number ours, zurkeb_number wanted) {
     same(what, ours.significand, wanted.significand);
     same(what, (uint32_t)ours.exponent, (uint32_t)wanted.exponent);

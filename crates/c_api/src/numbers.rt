@@ -1,10 +1,12 @@
 // Formats, numbers, places, neighbours and operations, for C.
 use crate::answers::CNumber;
+use crate::answers::CheckOut;
 use crate::answers::NumberOut;
 use crate::answers::OrderOut;
 use crate::answers::PublishedOut;
 use crate::answers::QuotientOut;
 use crate::answers::RoundedOut;
+use crate::answers::check_out;
 use crate::answers::number_in;
 use crate::answers::number_out;
 use crate::answers::order_out;
@@ -26,6 +28,7 @@ use number::signs::magnitude;
 use number::signs::negate;
 use units::neighbours::predecessor;
 use units::neighbours::successor;
+use units::neighbours::within_one_step;
 use units::places::ufp;
 use units::places::ulp;
 use units::places::uls;
@@ -38,10 +41,10 @@ ghost use Rattle.number.specs.Checks.{checked};
 ghost use Rattle.number.specs.Order.{compared};
 ghost use Rattle.number.specs.Signs.{negated, unsigned};
 ghost use Rattle.units.specs.Places.{firstPlace, lastPlace, leastPlace};
-ghost use Rattle.units.specs.Neighbours.{predecessorOf, successorOf};
+ghost use Rattle.units.specs.Neighbours.{predecessorOf, successorOf, withinOneStep};
 ghost use Rattle.arithmetic.specs.Marked.{sumAnswer, differenceAnswer, productAnswer, fractionAnswer};
 ghost use Rattle.arithmetic.specs.Quotients.{quotientAnswer};
-ghost use Rattle.c_api.specs.Answers.{refusalOut, numberIn, numberOut, roundedOut, quotientOut, orderOut, publishedOut};
+ghost use Rattle.c_api.specs.Answers.{refusalOut, numberIn, numberOut, roundedOut, quotientOut, orderOut, publishedOut, checkOut};
 
 // 0 if the format is admitted, else 1.
 #[no_mangle]
@@ -129,6 +132,14 @@ pub extern "C" fn zurkeb_successor(format: Format, x: CNumber) -> NumberOut
     ensures { λ r. ⌜ r ≡ numberOut (successorOf format (numberIn x)) ⌝ }
 {
     number_out(successor(format, number_in(x)))
+}
+
+// Does b have the value of a, or of a neighbour of a? Refuses 1, 3.
+#[no_mangle]
+pub extern "C" fn zurkeb_within_one_step(format: Format, a: CNumber, b: CNumber) -> CheckOut
+    ensures { λ r. ⌜ r ≡ checkOut (withinOneStep format (numberIn a) (numberIn b)) ⌝ }
+{
+    check_out(within_one_step(format, number_in(a), number_in(b)))
 }
 
 // a + b, with its mark. Refuses 1, 2, 3, 5.

@@ -1,11 +1,11 @@
 // The check: each of three numbers is faithful to its step exactly when it equals the step rounded down or rounded up.
-use crate::CheckAnswer;
 use crate::entry::check_order;
 use arithmetic::sum::add;
 use format::Format;
 use format::Preparation;
 use format::Prepared;
 use format::Verdict;
+use number::CheckAnswer;
 use number::Number;
 use number::NumberAnswer;
 use number::checks::enter_two;
@@ -20,9 +20,8 @@ ghost use lib.IntN.{_+ℤ_, _-ℤ_};
 ghost use Rattle.format.specs.Formats.{admitted};
 ghost use Rattle.format.specs.Given.{gives};
 ghost use Rattle.number.specs.Numbers.{member, value};
-ghost use Rattle.number.specs.Answers.{numberGiven};
+ghost use Rattle.number.specs.Answers.{numberGiven, checkGiven};
 ghost use Rattle.number.specs.Checks.{Operand, Operands, entered};
-ghost use Rattle.fast_two_sum.specs.Answers.{checkGiven};
 ghost use Rattle.fast_two_sum.specs.Checks.{isResult, isFaithful, isTriple, checkedTriple};
 
 // Has x the value that a step gave? A step that is too large gave none.

@@ -19,10 +19,3 @@ pub enum StepsAnswer {
     Triple(Steps),
     Refused(Refusal),
 }
-
-// Whether three numbers are faithful to the three steps.
-pub enum CheckAnswer {
-    Yes,
-    No,
-    Refused(Refusal),
-}

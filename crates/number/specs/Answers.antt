@@ -1,5 +1,6 @@
 -- The answers of this crate in the papers' terms.
 use Prim.Native.Nat.{ℕ}
+use mathlib.Core.Bool.{Bool, true, false}
 use Rattle.format.specs.Given.{Given, gives, refused}
 use Rattle.format.specs.Refusals.{refusalNumber}
 use Rattle.number.specs.declared.Number.{Number}
@@ -10,6 +11,8 @@ use Rattle.number.specs.declared.PatternAnswer.the-variants as pattern
 use Rattle.number.specs.declared.Ordering.{Ordering}
 use Rattle.number.specs.declared.OrderAnswer.{OrderAnswer}
 use Rattle.number.specs.declared.OrderAnswer.the-variants as order
+use Rattle.number.specs.declared.CheckAnswer.{CheckAnswer}
+use Rattle.number.specs.declared.CheckAnswer.the-variants as check
 
 abbrev pub numberGiven : NumberAnswer → Given Number
 numberGiven (number.Value x) = gives x
@@ -22,3 +25,8 @@ patternGiven (pattern.Refused why) = refused (refusalNumber why)
 abbrev pub orderGiven : OrderAnswer → Given Ordering
 orderGiven (order.Ordered o) = gives o
 orderGiven (order.Refused why) = refused (refusalNumber why)
+
+abbrev pub checkGiven : CheckAnswer → Given Bool
+checkGiven check.Yes = gives true
+checkGiven check.No = gives false
+checkGiven (check.Refused why) = refused (refusalNumber why)

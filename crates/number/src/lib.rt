@@ -43,3 +43,10 @@ pub enum OrderAnswer {
     Ordered(Ordering),
     Refused(Refusal),
 }
+
+// Yes or no, or why there is neither.
+pub enum CheckAnswer {
+    Yes,
+    No,
+    Refused(Refusal),
+}

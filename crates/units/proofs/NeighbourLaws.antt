@@ -19,10 +19,10 @@ zero-sign none (pos zero) e = refl
 zero-sign none (pos (suc n)) e = absurd (omega arith)
 zero-sign none (negsuc n) e = absurd (omega arith)
 
-less : {v w : ℤ} → v <ℤ w → v ≤ℤ w
+pub less : {v w : ℤ} → v <ℤ w → v ≤ℤ w
 less l = parts-le _ _ (omega (arith, lt-parts l))
 
-not-less : {v w : ℤ} → (v <ℤ w → ⊥) → w ≤ℤ v
+pub not-less : {v w : ℤ} → (v <ℤ w → ⊥) → w ≤ℤ v
 not-less {v} {w} h = parts-le w v (le-of-suc-le-suc (lt-of-not-le (λ (l : suc (above v + below w) ≤ above w + below v). h (parts-lt v w l))))
 
 module _ {f : Format} (a : Admitted f) where
@@ -31,7 +31,7 @@ module _ {f : Format} (a : Admitted f) where
   unfolding value
   size-greatest {x} i = subst (λ (n : ℕ). n ≤ greatest f) (sym (size-signed (x .negative) (magnitude f x))) (values.member-greatest a i)
 
-  wide-value : {x : Number} → Member f x → WideZ (f .base) (f .digits) (value f x)
+  pub wide-value : {x : Number} → Member f x → WideZ (f .base) (f .digits) (value f x)
   unfolding value
   wide-value {x} i = subst (Wide (f .base) (f .digits)) (sym (size-signed (x .negative) (magnitude f x))) (values.member-wide a i)
 
@@ -65,7 +65,7 @@ module _ {f : Format} (a : Admitted f) where
       ⊎-elim (λ g. inl (g .0, e ∙ g .1 .is, g .1 .number, subst Sought (sym (g .1 .same)) s, g .1 .zero)) (λ r. inr (e ∙ r .0, n (r .1))) (delivered-cases none v w)
 
   -- a value between two numbers of the format
-  between : {y z : Number} (v : ℤ) → Member f y → Member f z → value f y ≤ℤ v → v ≤ℤ value f z → natAbs v ≤ greatest f
+  pub between : {y z : Number} (v : ℤ) → Member f y → Member f z → value f y ≤ℤ v → v ≤ℤ value f z → natAbs v ≤ greatest f
   between {y} {z} v i j l m =
       omega (arith, le-parts l, le-parts m, size-parts v, size-parts (value f y), size-parts (value f z), size-greatest i, size-greatest j, apart v, apart (value f y), apart (value f z))
 

@@ -1,8 +1,8 @@
 -- `c_api::answers::check_out` meets its contract.
 use Rattle.theory.proofs.Prelude.{ℕ, _∙_, ap, sym, needs}
 use Rattle.format.specs.Given.{refused}
-use Rattle.fast_two_sum.specs.declared.CheckAnswer.{CheckAnswer}
-use Rattle.fast_two_sum.specs.Answers.{checkGiven}
+use Rattle.number.specs.declared.CheckAnswer.{CheckAnswer}
+use Rattle.number.specs.Answers.{checkGiven}
 use Rattle.c_api.specs.Answers.{checkOut}
 use Rattle.c_api.specs.declared.answers.CheckOut.{CheckOut}
 use Rattle.c_api.proofs.answers.check_out.Statement.{statement}
