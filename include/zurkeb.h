@@ -58,7 +58,7 @@ typedef struct zurkeb_format {
 } zurkeb_format;
 
 /* The value (-1)^negative * significand * base^exponent. Zero has either sign, and exponent emin. In an answer `negative` is 0 or 1; a
- * number that is handed over with any other value there is in no format, and is refused by 3. */
+ * number that is handed over with any other value there is in no format, and is refused by 3, by zurkeb_convert too. */
 typedef struct zurkeb_number {
     uint64_t significand;
     int32_t exponent;
@@ -210,6 +210,10 @@ zurkeb_rounded_answer zurkeb_product(zurkeb_format format, uint32_t direction, z
 zurkeb_quotient_answer zurkeb_quotient(zurkeb_format format, uint32_t direction, zurkeb_number a, zurkeb_number b);
 /* numerator / denominator, two whole numbers, rounded once in the direction, with the sign of the numerator. Refuses 1, 2, 4, 5. */
 zurkeb_rounded_answer zurkeb_fraction(zurkeb_format format, uint32_t direction, int32_t numerator, uint32_t denominator);
+/* Any record as a number of the format: its value, rounded once in the direction. x need not be in the format: any significand and any
+ * exponent are taken, far exponents too, and zero keeps its sign. In decimal with 7 digits {1, 0, 0} is no number of the format and becomes
+ * {1000000, -6, 0}, exact. A number of the format comes out as it is. Refuses 1, 2, 3 (only a sign that is neither 0 nor 1), 5. */
+zurkeb_rounded_answer zurkeb_convert(zurkeb_format format, uint32_t direction, zurkeb_number x);
 
 /* Rump's routes by the operations alone: the first place by figure 1, the last place by figures 3, 4 and 5. Where the premise
  * holds they answer what zurkeb_ufp and zurkeb_ulp answer. Refuse 1, 3, 8. */

@@ -12,6 +12,7 @@ typedef uint64_t (*pattern_call)(uint32_t, uint32_t, uint32_t);
 
 static pair pairs[SIMPLE];
 static zurkeb_number lines[SIMPLE]; /* each within two steps above its a */
+static uint64_t words[SIMPLE];
 static uint32_t left[SIMPLE], right[SIMPLE], out[SIMPLE];
 
 static uint64_t numbers_pass(our_call call, zurkeb_format format) {
@@ -25,6 +26,24 @@ static uint64_t quotients_pass(zurkeb_format format) {
     uint64_t used = 0;
     for (int i = 0; i < SIMPLE; i++)
         used ^= zurkeb_quotient(format, ZURKEB_NEAREST_EVEN, pairs[i].a, pairs[i].b).number.significand;
+    return used;
+}
+
+/* Each number of the format taken into it again. */
+static uint64_t conversions_pass(zurkeb_format format) {
+    uint64_t used = 0;
+    for (int i = 0; i < SIMPLE; i++)
+        used ^= zurkeb_convert(format, ZURKEB_NEAREST_EVEN, pairs[i].a).number.significand;
+    return used;
+}
+
+/* A whole number of 64 bits, taken into the format. */
+static uint64_t words_pass(zurkeb_format format) {
+    uint64_t used = 0;
+    for (int i = 0; i < SIMPLE; i++) {
+        zurkeb_number x = {words[i], 0, 0};
+        used ^= zurkeb_convert(format, ZURKEB_NEAREST_EVEN, x).number.significand;
+    }
     return used;
 }
 
@@ -54,6 +73,10 @@ static uint64_t pass(const char *name, zurkeb_format format) {
     for (int i = 0; i < 4; i++)
         if (strcmp(name, pattern_names[i]) == 0)
             return patterns_pass(pattern_calls[i]);
+    if (strcmp(name, "convert") == 0)
+        return conversions_pass(format);
+    if (strcmp(name, "convert_word") == 0)
+        return words_pass(format);
     if (strcmp(name, "within_one_step") == 0)
         return one_step_pass(format);
     if (strcmp(name, "sum_slices") == 0)
@@ -70,6 +93,7 @@ int main(int count, char **arguments) {
     for (int i = 0; i < SIMPLE; i++) {
         left[i] = (uint32_t)zurkeb_write_pattern(pairs[i].a);
         right[i] = (uint32_t)zurkeb_write_pattern(pairs[i].b);
+        words[i] = (uint64_t)random32() << 32 | random32();
         lines[i] = pairs[i].a;
         for (int k = i % 3; k > 0; k--)
             lines[i] = zurkeb_successor(format, lines[i]).number;

@@ -4,9 +4,8 @@
 
 #include "compare.h"
 #include "quotient.h"
+#include "rounding.h"
 #include "zurkeb.h"
-
-typedef unsigned __int128 wide;
 
 static const zurkeb_format formats[] = {
     {2, 11, -24, 5},     {2, 24, -149, 104}, {10, 7, -101, 90}, {10, 3, -5, 5},   {2, 31, 0, 0},      {2, 31, -5, 1},
@@ -15,63 +14,14 @@ static const zurkeb_format formats[] = {
 };
 enum { FORMATS = sizeof formats / sizeof *formats };
 
-/* v * base^count, or a number above every numerator where that is larger. */
-static wide raised(wide v, uint32_t base, int32_t count) {
-    while (count-- > 0 && v < (wide)1 << 100)
-        v *= base;
-    return v;
-}
-
-/* n / d at the exponent e: whole steps and what remains of `divisor`. */
-typedef struct steps {
-    wide whole, rest, divisor;
-    int32_t exponent;
-} steps;
-
 /* The steps at the lowest exponent of the format at which the digits suffice, found from above. */
 static steps divided(zurkeb_format f, wide n, uint32_t d) {
-    wide limit = raised(d, f.base, (int32_t)f.digits);
+    wide limit = raised(d, f.base, f.digits);
     int32_t e = f.emin > 40 ? f.emin : 40;
     while (e > f.emin && (n == 0 || raised(n, f.base, 1 - e) < raised(limit, f.base, e - 1)))
         e--;
     wide dividend = raised(n, f.base, -e), divisor = raised(d, f.base, e);
     return (steps){dividend / divisor, dividend % divisor, divisor, e};
-}
-
-static bool takes_next(uint32_t direction, bool negative, steps s) {
-    switch (direction) {
-    case ZURKEB_NEAREST_EVEN:
-        return 2 * s.rest > s.divisor || (2 * s.rest == s.divisor && s.whole % 2 == 1);
-    case ZURKEB_NEAREST_AWAY:
-        return 2 * s.rest >= s.divisor;
-    case ZURKEB_UPWARD:
-        return s.rest != 0 && !negative;
-    case ZURKEB_DOWNWARD:
-        return s.rest != 0 && negative;
-    default:
-        return false;
-    }
-}
-
-static zurkeb_rounded_answer rounded(zurkeb_format f, uint32_t direction, bool negative, steps s) {
-    wide top = raised(1, f.base, (int32_t)f.digits), m = s.whole + takes_next(direction, negative, s);
-    int32_t e = s.exponent;
-    if (m == top) {
-        m = top / f.base;
-        e++;
-    }
-    if (e > f.emax)
-        return (zurkeb_rounded_answer){.refusal = ZURKEB_TOO_LARGE};
-    uint32_t side = takes_next(direction, negative, s) != negative ? ZURKEB_HIGH : ZURKEB_LOW;
-    return (zurkeb_rounded_answer){0, s.rest == 0 ? ZURKEB_EXACT : side, {(uint64_t)m, e, negative}};
-}
-
-static void same_answer(const char *what, zurkeb_rounded_answer ours, zurkeb_rounded_answer wanted) {
-    same(what, ours.refusal, wanted.refusal);
-    same(what, ours.mark, wanted.mark);
-    same(what, ours.number.negative, wanted.number.negative);
-    same(what, ours.number.significand, wanted.number.significand);
-    same(what, (uint32_t)ours.number.exponent, (uint32_t)wanted.number.exponent);
 }
 
 static wide size(int32_t n) {
@@ -132,10 +82,6 @@ static void edges(zurkeb_format f) {
             fraction(f, (int32_t)-parts[i], parts[j]);
         }
     }
-}
-
-static void refused(const char *what, zurkeb_rounded_answer ours, uint32_t wanted) {
-    same_answer(what, ours, (zurkeb_rounded_answer){.refusal = wanted});
 }
 
 static void refusals(void) {

@@ -48,6 +48,14 @@ static outcome within_one_step(zurkeb_format f, uint32_t direction, const zurkeb
     return (outcome){r.refusal, {r.yes}};
 }
 
+static outcome convert(zurkeb_format f, uint32_t direction, const zurkeb_number *x) {
+    zurkeb_rounded_answer r = zurkeb_convert(f, direction, x[0]);
+    outcome o = {.refusal = r.refusal};
+    put(o.fields, r.number);
+    o.fields[4] = r.mark;
+    return o;
+}
+
 static outcome quotient(zurkeb_format f, uint32_t direction, const zurkeb_number *x) {
     zurkeb_quotient_answer r = zurkeb_quotient(f, direction, x[0], x[1]);
     outcome o = {.refusal = r.refusal};
@@ -101,6 +109,7 @@ static const call calls[] = {
     {"check_number", 1, false, .other = check_number},
     {"compare", 2, false, .other = compare},
     {"within_one_step", 2, false, .other = within_one_step},
+    {"convert", 1, true, .other = convert},
     {"fast_two_sum", 2, true, .other = fast_two_sum},
     {"is_fast_two_sum", 5, false, .other = is_fast_two_sum},
 };

@@ -13,13 +13,13 @@ significand, exponent. Below zero is two's complement. Columns that a call does 
   numbers of binary32."""
 import os
 
-FILES = ["binary32_nearest.txt", "binary32_directions.txt", "decimal.txt", "minus_zero.txt", "decimal32.txt", "wide.txt", "fractions.txt", "scope.txt", "digits.txt"]
+FILES = ["binary32_nearest.txt", "binary32_directions.txt", "decimal.txt", "minus_zero.txt", "decimal32.txt", "wide.txt", "fractions.txt", "scope.txt", "digits.txt", "conversions.txt"]
 FLAGGED = ["inexact/binary32_directions.txt", "inexact/decimal.txt"]
 # the operations in the order of their numbers, which is that of `calls` in crates/vectors/specs/Calls.antt
 NUMBERS = ["sum", "diff", "prod", "quot", "frac", "cmp", "abs", "neg", "pred", "succ", "ufp"]
 PATTERNS = ["sum", "diff", "prod", "quot"]
 DECIMAL32 = ["dread", "dwrite"]
-OPERATIONS = NUMBERS + ["pattern " + name for name in PATTERNS] + ["inexact " + name for name in PATTERNS] + DECIMAL32 + ["digits", "steps"]
+OPERATIONS = NUMBERS + ["pattern " + name for name in PATTERNS] + ["inexact " + name for name in PATTERNS] + DECIMAL32 + ["digits", "conv", "steps"]
 BINARY32 = [2, 24, -149, 104]
 NOTHING = [0, 0, 0]
 

@@ -43,7 +43,7 @@ pub data Fractioned (f : Format) (d : ℕ) (n : ℤ) (m : ℕ) : Given Number �
   zero-denominator : Admitted f → isDirection d ≡ true → m ≡ 0 → Fractioned f d n m (refused 4)
   rounds : {r : Given Number} → Admitted f → isDirection d ≡ true → 1 ≤ m → Outcome f (direction d) (signed (isNegative n) (over f n)) (under f m) r → Fractioned f d n m r
 
-only : (t : Bool) → t and true ≡ false → t ≡ false
+pub only : (t : Bool) → t and true ≡ false → t ≡ false
 unfolding _and_
 only true e = e
 only false e = e
@@ -75,13 +75,13 @@ same-sign (pos a) (negsuc b) m j hm hj e = absurd (omega (arith, ap below e, sca
 same-sign (negsuc a) (pos b) m j hm hj e = absurd (omega (arith, ap below e, scale-below (negsuc a) j, scale-below (pos b) m, mul-pos {m = suc a} {n = j} (omega arith) hj))
 same-sign (negsuc a) (negsuc b) m j hm hj e = refl
 
-rounded-same : {f : Format} → Admitted f → (d : Direction) {s t : Bool} {N D N′ D′ : ℕ} → s ≡ t → Same N D N′ D′ → rounded f d s N D ≡ rounded f d t N′ D′
+pub rounded-same : {f : Format} → Admitted f → (d : Direction) {s t : Bool} {N D N′ D′ : ℕ} → s ≡ t → Same N D N′ D′ → rounded f d s N D ≡ rounded f d t N′ D′
 unfolding rounded
 rounded-same {f} ok d {t = t} e h = rw e (ap (delivered f t) (round-same (positional ok) d t h))
 
 module _ (f : Format) (d : ℕ) where
   -- what holds after passed checks holds of what is given
-  checked-same : {x y : Given Number} → (Admitted f → x ≡ y) → checked f (d ∷ []) [] x ≡ checked f (d ∷ []) [] y
+  pub checked-same : {x y : Given Number} → (Admitted f → x ≡ y) → checked f (d ∷ []) [] x ≡ checked f (d ∷ []) [] y
   unfolding checked
   checked-same {x} {y} h = by (admitted f) refl
     where

@@ -2,6 +2,7 @@
 pub mod Prepared
 pub mod Pairs
 pub mod QuotientPlaces
+pub mod Conversions
 -- what an answer says of the exact result
 pub mod Outcome
 pub mod Fractions
@@ -15,6 +16,9 @@ pub mod ZeroLaws
 pub mod FractionLaws
 -- what the marks say
 pub mod MarkLaws
+-- numbers of any form, taken into a format
+pub mod ConversionLaws
+pub mod ConversionExamples
 -- how many digits of a quotient are worked out
 pub mod DigitLaws
 pub mod Prelude

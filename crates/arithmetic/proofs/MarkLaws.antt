@@ -19,7 +19,7 @@ use Rattle.arithmetic.proofs.Calls.{summed-rounds, subtracted-rounds, m
 use Rattle.arithmetic.proofs.FractionLaws.{Fractioned, not-admitted, no-direction, zero-denominator, rounds, fractioned-is}
 
 -- ---- a mark is put on what is given, refusals apart
-marked-checked : (f : Format) (N : ℤ) (D : ℕ) (directions : List ℕ) (numbers : List Number) (g : Given Number)
+pub marked-checked : (f : Format) (N : ℤ) (D : ℕ) (directions : List ℕ) (numbers : List Number) (g : Given Number)
     → checked f directions numbers (marked f N D g) ≡ marked f N D (checked f directions numbers g)
 unfolding checked marked unless
 marked-checked f N D directions numbers g = by (admitted f) (all isDirection directions) (all (member f) numbers)
@@ -86,7 +86,7 @@ pub fraction-unmarked : (f : Format) (d : ℕ) (n : ℤ) (m : ℕ) → withoutMa
 fraction-unmarked f d n m = ap withoutMark (fraction-marked f d n m) ∙ marked-number f _ _ _
 
 -- ---- the mark is true of the exact result
-marked-given : (f : Format) (N : ℤ) (D : ℕ) (g : Given Number) {d : Direction} {r : Rounded} → ((x : Number) → g ≡ gives x → RoundedNumber f d N D x)
+pub marked-given : (f : Format) (N : ℤ) (D : ℕ) (g : Given Number) {d : Direction} {r : Rounded} → ((x : Number) → g ≡ gives x → RoundedNumber f d N D x)
     → marked f N D g ≡ gives r → MarkedNumber f d N D r
 unfolding marked
 marked-given f N D (gives x) {d} h e =

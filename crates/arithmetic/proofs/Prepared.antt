@@ -23,10 +23,10 @@ use Rattle.wide.proofs.Results.{sum-value}
 use Rattle.wide.proofs.Signs.{signed-times}
 use Rattle.wide.proofs.Products.{product-value, shifted-value}
 use Rattle.arithmetic.specs.declared.operands.Powers.{Powers}
-use Rattle.arithmetic.specs.Operands.{wideOf, productPowers, quotientPowers, zeroSigned}
-use Rattle.arithmetic.specs.Operations.{zeroSign}
+use Rattle.arithmetic.specs.Operands.{wideOf, productPowers, quotientPowers, recordPowers, zeroSigned}
+use Rattle.arithmetic.specs.Operations.{zeroSign, roundedRecord}
 use Rattle.arithmetic.specs.Quotients.{withoutDigits, withDigits}
-use Rattle.arithmetic.specs.Marked.{withoutMark, withMark, marked, markedSum, markedProduct, markedQuotient, markedFraction}
+use Rattle.arithmetic.specs.Marked.{withoutMark, withMark, marked, markedSum, markedProduct, markedQuotient, markedFraction, markedRecord}
 
 -- ---- the parts of Emin
 pub parts-above : (z : ℤ) → aboveZero z ≡ above z
@@ -262,3 +262,9 @@ module _ {q : Prepared} (u : Usable q) where
       → Delivers (q .format) r (markedFraction (q .format) d n m)
   fraction-delivers d n some e g es ek h =
       rw (denominator-some (q .format) d n some, ← fraction-signed (q .format) n) (rounds-delivers (rw (es, ek, g .is, e .is, scale-is) at h))
+
+  pub record-delivers : (d : Direction) (x : Number) {w : Powers} {r : Rounding} → w ≡ recordPowers (q .format) (x .exponent)
+      → Rounds (q .scale .base) (q .scale .digits) d (x .negative) (x .significand * q .scale .base ^ w .up) (q .scale .base ^ w .down) r
+      → Delivers (q .format) r (markedRecord (q .format) d x)
+  unfolding roundedRecord
+  record-delivers d x e h = rounds-delivers (rw (e, scale-is) at h)

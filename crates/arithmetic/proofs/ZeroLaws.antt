@@ -1,6 +1,6 @@
 -- The signs of results, zeros among them (IEEE 754, clause 6.3): a product or quotient has the signs' exclusive or; a sum has the sign
 -- of the exact sum, where that is zero plus, in direction 4 minus, unless both summands have one sign; a fraction has that of its
--- numerator.
+-- numerator, and a converted number its own.
 use Rattle.theory.proofs.Prelude.{ℕ, true, false, Bool, not, xor, cond, [], _∷_, _∙_, ap, _≡_, sym, refl, leb, arith, ℤ, pos, _+ℤ_, _-ℤ_, negℤ}
 use Rattle.arithmetic.proofs.Prelude.{Direction, unless, signed, isNegative, Format, Given, gives, refused, direction, positional, gives-same, gives-not-refused, Number, magnitude, value, greatest, number, delivered, Checks, checks-end, not-admitted, no-direction, not-member, all-passed, rounded, roundedZ, roundedProduct, roundedQuotient, roundedFraction, summed, subtracted, multiplied, divided, fractioned}
 use lib.Dec.{eqb}
@@ -8,7 +8,7 @@ use Rattle.theory.specs.Signed.{signOr}
 use Rattle.theory.proofs.Wide.{wide-zero}
 use Rattle.theory.proofs.Integers.{no-sign, parts-eq, sum-parts, neg-above, neg-below}
 use Rattle.number.proofs.Values.{number-member, number-value}
-use Rattle.arithmetic.specs.Operations.{isDownward, zeroSign}
+use Rattle.arithmetic.specs.Operations.{isDownward, zeroSign, roundedRecord, converted}
 use Rattle.arithmetic.proofs.Prepared.{no-significand}
 use Rattle.arithmetic.proofs.Outcome.{roundedZ-exact}
 use Rattle.arithmetic.proofs.Calls.{Checked, call, call-given, call-passed}
@@ -55,6 +55,17 @@ fraction-sign f d n m {x} e = by (checks-end f (d ∷ []) [] (roundedFraction f 
     by (no-direction h i) k = absurd (gives-not-refused (sym k))
     by (not-member h i l) k = absurd (gives-not-refused (sym k))
     by (all-passed h i l) k = delivered-sign f _ _ (otherwise (eqb m 0) k)
+
+-- so what rounds to zero is the zero with the sign that was handed over
+pub conversion-sign : (f : Format) (d : ℕ) (x : Number) {y : Number} → converted f d x ≡ gives y → y .negative ≡ x .negative
+unfolding converted roundedRecord rounded
+conversion-sign f d x {y} e = by (checks-end f (d ∷ []) [] (roundedRecord f (direction d) x)) e
+  where
+    by : {g : Given Number} → Checks f (d ∷ []) [] (roundedRecord f (direction d) x) g → g ≡ gives y → y .negative ≡ x .negative
+    by (not-admitted h) k = absurd (gives-not-refused (sym k))
+    by (no-direction h i) k = absurd (gives-not-refused (sym k))
+    by (not-member h i l) k = absurd (gives-not-refused (sym k))
+    by (all-passed h i l) k = delivered-sign f _ _ k
 
 -- ---- exact zero sums
 opposite : (s : Bool) (n : ℕ) → signed (not s) n +ℤ signed s n ≡ pos 0

@@ -19,7 +19,7 @@ use Rattle.number.specs.Checks.{checked}
 use Rattle.arithmetic.specs.declared.Rounded.{Rounded}
 use Rattle.arithmetic.specs.declared.RoundedAnswer.{RoundedAnswer}
 use Rattle.arithmetic.specs.declared.RoundedAnswer.the-variants.{Value, Refused}
-use Rattle.arithmetic.specs.Operations.{roundedSum, roundedDifference, roundedProduct, roundedQuotient, roundedFraction}
+use Rattle.arithmetic.specs.Operations.{roundedSum, roundedDifference, roundedProduct, roundedQuotient, roundedFraction, roundedRecord}
 
 -- ---- the answer
 abbrev pub roundedGiven : RoundedAnswer → Given Rounded
@@ -56,6 +56,11 @@ markedQuotient f d a b =
 abbrev pub markedFraction : Format → Direction → (n : ℤ) (m : ℕ) → Given Rounded
 markedFraction f d n m = marked f (n *ℤ pos (f .base ^ belowZero (f .emin))) (m * f .base ^ aboveZero (f .emin)) (roundedFraction f d n m)
 
+-- ---- of any record: ± m × β ^ (e - Emin) units
+abbrev pub markedRecord : Format → Direction → Number → Given Rounded
+markedRecord f d x =
+    marked f (signed (x .negative) (x .significand * f .base ^ aboveZero (x .exponent -ℤ f .emin))) (f .base ^ belowZero (x .exponent -ℤ f .emin)) (roundedRecord f d x)
+
 -- ---- the public calls: refusals 1, 2 and 3 come first
 unfoldable pub sumAnswer : Format → (d : ℕ) (a b : Number) → Given Rounded
 sumAnswer f d a b = checked f (d ∷ []) (a ∷ b ∷ []) (markedSum f (direction d) a b)
@@ -68,6 +73,9 @@ productAnswer f d a b = checked f (d ∷ []) (a ∷ b ∷ []) (markedProduct f (
 
 unfoldable pub fractionAnswer : Format → (d : ℕ) (numerator : ℤ) (denominator : ℕ) → Given Rounded
 fractionAnswer f d numerator denominator = checked f (d ∷ []) [] (markedFraction f (direction d) numerator denominator)
+
+unfoldable pub conversionAnswer : Format → (d : ℕ) → Number → Given Rounded
+conversionAnswer f d x = checked f (d ∷ []) [] (markedRecord f (direction d) x)
 
 -- ---- for inner functions: what is given, with a mark that stands already
 abbrev pub withMark : Mark → Given Number → Given Rounded

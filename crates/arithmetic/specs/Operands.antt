@@ -2,6 +2,7 @@
 use Prim.Native.Nat.{_+_}
 use mathlib.Core.Bool.{Bool, cond}
 use lib.Dec.{eqb}
+use lib.IntN.{ℤ, _-ℤ_}
 use Rattle.format.specs.declared.Format.{Format}
 use Rattle.number.specs.declared.Number.{Number}
 use Rattle.number.specs.Numbers.{placeOf}
@@ -20,6 +21,10 @@ productPowers f a b = record { up = placeOf f a + placeOf f b + aboveZero (f .em
 
 abbrev pub quotientPowers : Format → (a b : Number) → Powers
 quotientPowers f a b = record { up = placeOf f a + belowZero (f .emin); down = placeOf f b + aboveZero (f .emin) }
+
+-- and beside the significand of a record with the exponent e
+abbrev pub recordPowers : Format → (e : ℤ) → Powers
+recordPowers f e = record { up = aboveZero (e -ℤ f .emin); down = belowZero (e -ℤ f .emin) }
 
 -- a result whose zero has this sign
 abbrev pub zeroSigned : Bool → Rounding → Rounding

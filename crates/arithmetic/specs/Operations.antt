@@ -1,5 +1,5 @@
--- The four operations and the fraction: the checks of document 01 in their order, then the exact result in units of β ^ Emin, rounded
--- once.
+-- The four operations, the fraction and the conversion: the checks of document 01 in their order, then the exact result in units of
+-- β ^ Emin, rounded once.
 use Prim.Native.Nat.{ℕ, _*_, _^_}
 use mathlib.Core.Bool.{Bool, true, false, not, xor, cond, Bool·beq}
 use mathlib.Core.List.{[], _∷_}
@@ -63,6 +63,12 @@ roundedFraction f d n m =
     cond (eqb m 0) (refused 4)
     (rounded f d (isNegative n) (natAbs n * f .base ^ belowZero (f .emin)) (m * f .base ^ aboveZero (f .emin)))
 
+-- ---- of any record, in the format or not
+-- ± m × β ^ e is ± m × β ^ (e - Emin) units
+unfoldable pub roundedRecord : Format → Direction → Number → Given Number
+roundedRecord f d x =
+    rounded f d (x .negative) (x .significand * f .base ^ aboveZero (x .exponent -ℤ f .emin)) (f .base ^ belowZero (x .exponent -ℤ f .emin))
+
 -- ---- the public calls: refusals 1, 2 and 3 come first
 -- the answer of sum
 unfoldable pub summed : Format → (d : ℕ) (a b : Number) → Given Number
@@ -83,3 +89,7 @@ divided f d a b = checked f (d ∷ []) (a ∷ b ∷ []) (roundedQuotient f (dire
 -- the answer of fraction
 unfoldable pub fractioned : Format → (d : ℕ) (numerator : ℤ) (denominator : ℕ) → Given Number
 fractioned f d numerator denominator = checked f (d ∷ []) [] (roundedFraction f (direction d) numerator denominator)
+
+-- the answer of convert
+unfoldable pub converted : Format → (d : ℕ) → Number → Given Number
+converted f d x = checked f (d ∷ []) [] (roundedRecord f (direction d) x)

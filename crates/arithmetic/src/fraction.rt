@@ -18,7 +18,7 @@ ghost use Rattle.number.specs.Checks.{Usable};
 ghost use Rattle.arithmetic.specs.Marked.{roundedGiven, markedFraction, fractionAnswer};
 
 // |n|, which is 2^31 for the least n: n + 1 has a negation of 32 bits.
-fn size(n: i32) -> u32
+pub fn size(n: i32) -> u32
     ensures { λ r. ⌜ r ≡ natAbs n ⌝ }
 {
     if n < 0 { -(n + 1) as u32 + 1 } else { n as u32 }

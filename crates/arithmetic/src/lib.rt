@@ -1,6 +1,7 @@
-// Sum, difference, product and quotient of numbers of a format, and fractions of whole numbers: the exact result, rounded once in a
-// direction, and its mark; of a quotient also how many of its digits were worked out. Each module has the operation on a prepared
-// format, with the mark and without, and the call, which takes anything.
+// Sum, difference, product and quotient of numbers of a format, fractions of whole numbers, and numbers of any form taken into a
+// format: the exact result, rounded once in a direction, and its mark; of a quotient also how many of its digits were worked out. Each
+// module has the operation on a prepared format, with the mark and without, and the call, which takes anything.
+pub mod conversion;
 pub mod fraction;
 pub mod operands;
 pub mod product;

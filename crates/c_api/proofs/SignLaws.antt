@@ -1,9 +1,17 @@
--- The sign of a number that C hands over: 0 and 1 make the number that they say, and any other one that is in no format.
-use Rattle.theory.proofs.Prelude.{ℕ, _≤_, _^_, _-_, true, false, Bool, cond, _≡_, refl, ap, arith, ℤ, lt-leb}
-use Rattle.number.proofs.Prelude.{Format, admitted, admits, member, members}
+-- The sign of a number that C hands over: 0 and 1 make the number that they say, and any other one that is in no format; a conversion, which
+-- takes numbers of any form, refuses it by 3 too.
+use Rattle.theory.proofs.Prelude.{ℕ, _≤_, _^_, _-_, true, false, Bool, cond, [], _∷_, _≡_, refl, sym, _∙_, ap, arith, ℤ, le-leb, lt-leb}
+use Rattle.theory.proofs.Words.{all}
+use Rattle.theory.proofs.Tests.{and-made}
+use Rattle.format.specs.Directions.{isDirection, direction}
+use Rattle.format.specs.Given.{Given, refused}
+use Rattle.number.proofs.Prelude.{Format, admitted, admits, member, members, checked}
+use Rattle.number.proofs.CheckLaws.{checked-passed}
 use Rattle.number.specs.declared.Number.{Number}
+use Rattle.arithmetic.specs.declared.Rounded.{Rounded}
+use Rattle.arithmetic.specs.Marked.{markedRecord, conversionAnswer}
 use Rattle.c_api.specs.declared.answers.CNumber.{CNumber}
-use Rattle.c_api.specs.Answers.{numberIn, numberFor}
+use Rattle.c_api.specs.Answers.{numberIn, numberFor, convertedIn}
 
 refuted : (t : Bool) → (t ≡ true → ⊥) → t ≡ false
 refuted true h = absurd (h refl)
@@ -27,3 +35,21 @@ back false significand exponent = refl
 
 pub number-back : (x : Number) → numberIn (numberFor x) ≡ x
 number-back x = back (x .negative) (x .significand) (x .exponent)
+
+-- ---- numbers of any form
+module _ (f : Format) (d : ℕ) (x : CNumber) where
+  abbrev by-sign : (known : Bool) → Given Rounded
+  by-sign known = checked f (d ∷ []) [] (cond known (markedRecord f (direction d) (numberIn x)) (refused 3))
+
+  -- 0 and 1: the answer of convert
+  pub known-sign : x .negative ≤ 1 → conversionAnswer f d (numberIn x) ≡ convertedIn f d x
+  unfolding conversionAnswer
+  known-sign h = sym (ap by-sign (le-leb (x .negative) 1 h))
+
+  -- from 2 on: 1 and 2 first, and then 3, whatever the significand and the exponent are
+  pub other-sign : 2 ≤ x .negative → checked f (d ∷ []) [] (refused 3) ≡ convertedIn f d x
+  other-sign h = sym (ap by-sign (lt-leb (x .negative) 1 h))
+
+  pub other-sign-refused : admitted f ≡ true → isDirection d ≡ true → 2 ≤ x .negative → convertedIn f d x ≡ refused 3
+  unfolding all
+  other-sign-refused a k h = sym (other-sign h) ∙ checked-passed f (d ∷ []) [] (refused 3) a (and-made k refl) refl

@@ -2,17 +2,21 @@
 use Prim.Native.Nat.{ℕ, _*_, _-_, _^_, _<_}
 use mathlib.Core.Path.{_≡_}
 use mathlib.Core.Bool.{Bool, cond}
+use mathlib.Core.List.{[], _∷_}
 use lib.Dec.{leb, eqb}
 use lib.IntN.{ℤ, pos, negsuc}
 use Rattle.theory.specs.declared.Mark.{Mark}
 use Rattle.theory.specs.declared.Mark.the-variants.{Exact, Low, High}
 use Rattle.format.specs.declared.Format.{Format}
+use Rattle.format.specs.Directions.{direction}
 use Rattle.format.specs.Given.{Given, gives, refused, refusedAt}
 use Rattle.number.specs.declared.Number.{Number}
 use Rattle.number.specs.declared.Ordering.{Ordering}
 use Rattle.number.specs.declared.Ordering.the-variants.{Less, Equal, Greater}
+use Rattle.number.specs.Checks.{checked}
 use Rattle.arithmetic.specs.declared.Rounded.{Rounded}
 use Rattle.arithmetic.specs.declared.CountedQuotient.{CountedQuotient}
+use Rattle.arithmetic.specs.Marked.{markedRecord}
 use Rattle.fast_two_sum.specs.declared.Steps.{Steps}
 use Rattle.c_api.specs.declared.answers.CNumber.{CNumber}
 use Rattle.c_api.specs.declared.answers.NumberOut.{NumberOut}
@@ -76,6 +80,10 @@ roundedOut g =
       mark = valueOut (λ (x : Rounded). markNumber (x .mark)) 0 g;
       number = valueOut (λ (x : Rounded). numberFor (x .number)) noNumber g;
     }
+
+-- the answer of convert: C's number need not be in the format, but a sign that is neither 0 nor 1 is refused by 3, after 1 and 2 and before 5
+abbrev pub convertedIn : Format → (d : ℕ) → CNumber → Given Rounded
+convertedIn f d x = checked f (d ∷ []) [] (cond (leb (x .negative) 1) (markedRecord f (direction d) (numberIn x)) (refused 3))
 
 abbrev pub quotientOut : Given CountedQuotient → QuotientOut
 quotientOut g =

@@ -14,15 +14,21 @@ use crate::answers::published_out;
 use crate::answers::quotient_out;
 use crate::answers::rounded_out;
 use crate::answers::verdict_out;
+use arithmetic::RoundedAnswer;
+use arithmetic::conversion::convert;
 use arithmetic::fraction::fraction;
 use arithmetic::product::product;
 use arithmetic::quotient::quotient;
 use arithmetic::sum::difference;
 use arithmetic::sum::sum;
 use format::Format;
+use format::Preparation;
+use format::Refusal;
 use format::admission::check_format;
+use format::admission::prepare;
 use format::published::published;
 use number::checks::check_number;
+use number::checks::with_direction;
 use number::order::compare;
 use number::signs::magnitude;
 use number::signs::negate;
@@ -35,16 +41,16 @@ use units::places::uls;
 ghost use mathlib.Core.Path.{_≡_};
 ghost use mathlib.Core.List.{[], _∷_};
 ghost use Rattle.format.specs.Formats.{formatChecked};
-ghost use Rattle.format.specs.Given.{gives};
+ghost use Rattle.format.specs.Given.{gives, refused};
 ghost use Rattle.format.specs.Published.{publishedFormat};
 ghost use Rattle.number.specs.Checks.{checked};
 ghost use Rattle.number.specs.Order.{compared};
 ghost use Rattle.number.specs.Signs.{negated, unsigned};
 ghost use Rattle.units.specs.Places.{firstPlace, lastPlace, leastPlace};
 ghost use Rattle.units.specs.Neighbours.{predecessorOf, successorOf, withinOneStep};
-ghost use Rattle.arithmetic.specs.Marked.{sumAnswer, differenceAnswer, productAnswer, fractionAnswer};
+ghost use Rattle.arithmetic.specs.Marked.{roundedGiven, sumAnswer, differenceAnswer, productAnswer, fractionAnswer};
 ghost use Rattle.arithmetic.specs.Quotients.{quotientAnswer};
-ghost use Rattle.c_api.specs.Answers.{refusalOut, numberIn, numberOut, roundedOut, quotientOut, orderOut, publishedOut, checkOut};
+ghost use Rattle.c_api.specs.Answers.{refusalOut, numberIn, numberOut, roundedOut, convertedIn, quotientOut, orderOut, publishedOut, checkOut};
 
 // 0 if the format is admitted, else 1.
 #[no_mangle]
@@ -200,4 +206,25 @@ pub extern "C" fn zurkeb_fraction(
     ensures { λ r. ⌜ r ≡ roundedOut (fractionAnswer format direction numerator denominator) ⌝ }
 {
     rounded_out(fraction(format, direction, numerator, denominator))
+}
+
+// What is refused where the sign is neither 0 nor 1: by 1 and 2, and then by 3.
+fn refuse_sign(format: Format, direction: u32) -> RoundedAnswer
+    ensures { λ r. ⌜ roundedGiven r ≡ checked format (direction ∷ []) [] (refused 3) ⌝ }
+{
+    match with_direction(prepare(format), direction) {
+        Preparation::Refused(why) => RoundedAnswer::Refused(why),
+        Preparation::Ready(_) => RoundedAnswer::Refused(Refusal::NumberNotInFormat),
+    }
+}
+
+// x, in the format or not, rounded into it, with its mark. Refuses 1, 2, 3 for a sign that is neither 0 nor 1, 5.
+#[no_mangle]
+pub extern "C" fn zurkeb_convert(format: Format, direction: u32, x: CNumber) -> RoundedOut
+    ensures { λ r. ⌜ r ≡ roundedOut (convertedIn format direction x) ⌝ }
+{
+    if 1 < x.negative {
+        return rounded_out(refuse_sign(format, direction));
+    }
+    rounded_out(convert(format, direction, number_in(x)))
 }

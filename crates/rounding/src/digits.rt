@@ -51,7 +51,7 @@ pub fn power(scale: Scale, k: u32) -> Significand
 }
 
 // The digits of `n` in base 2, which are its bits.
-fn bit_count(n: u64) -> u32
+pub fn bit_count(n: u64) -> u32
     requires { ⌜ 1 ≤ n ⌝ }
     ensures { λ r. ⌜ Digits 2 n r ⌝ }
 {

@@ -15,7 +15,7 @@ use Rattle.units.specs.Neighbours.{predecessorOf, successorOf}
 use Rattle.units.specs.Places.{firstPlace}
 use Rattle.theory.specs.Marks.{inexact}
 use Rattle.arithmetic.specs.declared.Rounded.{Rounded}
-use Rattle.arithmetic.specs.Marked.{withoutMark, sumAnswer, differenceAnswer, productAnswer, fractionAnswer}
+use Rattle.arithmetic.specs.Marked.{withoutMark, sumAnswer, differenceAnswer, productAnswer, fractionAnswer, conversionAnswer}
 use Rattle.arithmetic.specs.declared.CountedQuotient.{CountedQuotient}
 use Rattle.arithmetic.specs.Quotients.{withoutDigits, quotientAnswer}
 use Rattle.fast_two_sum.specs.declared.Steps.{Steps}
@@ -81,8 +81,9 @@ calls f d a b =
     ∷ decimal32Read (lowWord (a .significand))
     ∷ patternNumber (decimal32Written a)
     ∷ digitsWhole (quotientAnswer f d a b)
+    ∷ withoutMark (conversionAnswer f d a)
     ∷ []
 
--- what the operation with this number answers: from 22 on, the three-step sum
+-- what the operation with this number answers: from 23 on, the three-step sum
 unfoldable pub answerOf : (operation : ℕ) → Format → (d : ℕ) (a b : Number) → Given Number
 answerOf operation f d a b = getD (calls f d a b) operation (firstOfSteps (fastTwoSum f d d d a b))

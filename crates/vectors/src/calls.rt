@@ -157,6 +157,7 @@ pub fn answer_of(operation: u32, format: Format, d: u32, a: Number, b: Number) -
         19 => read_decimal32(m),
         20 => pattern_number(write_decimal32(a)),
         21 => digits_number(quotient(format, d, a, b)),
+        22 => unmarked(arithmetic::conversion::convert(format, d, a)),
         _ => first_step(fast_two_sum(format, d, d, d, a, b)),
     }
 }

@@ -10,3 +10,5 @@ pub mod Results
 -- the long division of fractions
 pub mod Digits
 pub mod Cuts
+-- numbers of any form
+pub mod Conversions

@@ -20,12 +20,12 @@ module _ {β p : ℕ} (ok : Positional β p) where
       let most : b ≤ β ^ p = omega (arith, hb) in
       le-trans (omega (arith, mul-le-mul-left (a * β ^ up) most, ap (λ (v : ℕ). a * v) (pow-add β p up))) (shifted-size {i = p + up} ha l)
 
-  -- a number of 32 bits times a power
-  pub fraction-size : (n i : ℕ) → n < 2 ^ 32 → n * β ^ i ≤ (β ^ p - 1) * β ^ (32 + i)
-  fraction-size n i l =
-      let few : n ≤ β ^ 32 = omega (arith, pow-le-pow-left (ok .base) 32) in
+  -- a number of so many bits times a power
+  pub bits-size : (bits n i : ℕ) → n < 2 ^ bits → n * β ^ i ≤ (β ^ p - 1) * β ^ (bits + i)
+  bits-size bits n i l =
+      let few : n ≤ β ^ bits = omega (arith, pow-le-pow-left (ok .base) bits) in
       let digit : 1 ≤ β ^ p - 1 = omega (arith, pow-mono (ok .base) (ok .digits), power-one β, ok .base) in
-      omega (arith, pow-add β 32 i, mul-le-mul-right (β ^ i) few, mul-le-mul-right (β ^ (32 + i)) digit)
+      omega (arith, pow-add β bits i, mul-le-mul-right (β ^ i) few, mul-le-mul-right (β ^ (bits + i)) digit)
 
   module _ (x y : Wide) (hx : Canonical β p (x .significand) (x .place)) (hy : Canonical β p (y .significand) (y .place)) where
     pub sum-size : (k : ℕ) → x .place ≤ k → y .place ≤ k → natAbs (valueOf β x +ℤ valueOf β y) ≤ (β ^ p - 1) * β ^ (k + 1)

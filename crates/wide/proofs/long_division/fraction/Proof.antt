@@ -1,7 +1,7 @@
 -- `wide::long_division::fraction` meets its contract: the cut of the fraction, delivered.
 use Rattle.theory.proofs.Prelude.{_≤_, _+_, _^_, _*_, mul-pos, arith}
 use Rattle.rounding.proofs.Prelude.{pow-pos, positional}
-use Rattle.wide.proofs.Sizes.{fraction-size}
+use Rattle.wide.proofs.Sizes.{bits-size}
 use Rattle.wide.proofs.Finishes.{finishes}
 use Rattle.wide.proofs.long_division.fraction.Statement.{statement}
 use Rattle.wide.proofs.long_division.fraction.Tie as tie
@@ -17,5 +17,5 @@ fraction-spec =
     (λ c κs.
     let s = c .before in
     finishes (s .pre .0) _ _ (size s) (c .cut-fraction .ensures) (32 + s .args .up) (omega (arith, s .pre .2))
-    (fraction-size (positional (s .pre .0)) (s .args .n) (s .args .up) (omega arith)))
+    (bits-size (positional (s .pre .0)) 32 (s .args .n) (s .args .up) (omega arith)))
     (λ c. c .finish .ensures _ _ (size (c .before .before)) (c .before .cut-fraction .ensures)))
