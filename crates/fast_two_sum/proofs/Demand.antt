@@ -31,7 +31,7 @@ refused-same : {A : Type 0} {m n : ℕ} → _≡_ {A = Given A} (refused m) (ref
 refused-same h = cc
 
 -- three steps so rounded are a triple
-rounded-is-triple : {f : Format} {d₁ d₂ d₃ : Direction} {a b : Number} {t : Steps} → Admitted f → RoundedSteps f d₁ d₂ d₃ a b t → Triple f a b (t .x) (t .z) (t .y)
+pub rounded-is-triple : {f : Format} {d₁ d₂ d₃ : Direction} {a b : Number} {t : Steps} → Admitted f → RoundedSteps f d₁ d₂ d₃ a b t → Triple f a b (t .x) (t .z) (t .y)
 rounded-is-triple {d₁ = d₁} {d₂ = d₂} {d₃ = d₃} ok r =
     record {
       x-number = r .x-is .member;

@@ -4,3 +4,4 @@ pub mod Order
 pub mod Chain
 pub mod Faithfulness
 pub mod Demand
+pub mod Reversed

@@ -26,8 +26,13 @@ pub mod Marks
 pub mod Faithful
 -- the three-step sum
 pub mod Error
+pub mod Binades
+pub mod Nearest
 pub mod Steps
 pub mod FastTwoSum
+pub mod ReversedSteps
+pub mod Reversed
+pub mod ReversedTight
 -- Rump's routes
 pub mod Operations
 pub mod FirstPlace

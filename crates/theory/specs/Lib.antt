@@ -10,4 +10,5 @@ pub mod Round
 pub mod Signed
 pub mod Marks
 pub mod Faithful
+pub mod Nearest
 pub mod Rump
