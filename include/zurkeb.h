@@ -221,6 +221,12 @@ zurkeb_number_answer zurkeb_ufp_toward_zero(zurkeb_format format, zurkeb_number 
 zurkeb_number_answer zurkeb_ulp_upward(zurkeb_format format, zurkeb_number x);
 zurkeb_number_answer zurkeb_ulp_toward_zero(zurkeb_format format, zurkeb_number x);
 zurkeb_number_answer zurkeb_ulp_toward_zero_unbranched(zurkeb_format format, zurkeb_number x);
+/* With the successor, in any direction: the first place by figure 6 (y = |x| base^(p - 1), the successor of y less y), the last place by
+ * figure 3 (the successor of |x| less |x|). Where the premise holds they answer what zurkeb_ufp and zurkeb_ulp answer. The premise of
+ * both: x is not zero. Of the last place: |x| is not the greatest number. Of the first place: emin <= p - 1 and 0 <= emax, so that
+ * base^(p - 1) is a number of the format, and |x| base^(p - 1) is less than the greatest number. Refuse 1, 2, 3, 8. */
+zurkeb_number_answer zurkeb_ufp_by_successor(zurkeb_format format, uint32_t direction, zurkeb_number x);
+zurkeb_number_answer zurkeb_ulp_by_successor(zurkeb_format format, uint32_t direction, zurkeb_number x);
 
 /* FastTwoSum: x from a + b, z from x - a, y from b - z, each in its own direction. Refuses 1, 2, 3, 6, 7, 5. */
 zurkeb_triple_answer zurkeb_fast_two_sum(zurkeb_format format, uint32_t first, uint32_t second, uint32_t third, zurkeb_number a,

@@ -86,6 +86,7 @@ typedef struct call {
     int operands;
     bool directed;
     zurkeb_number_answer (*of_one)(zurkeb_format, zurkeb_number);
+    zurkeb_number_answer (*of_one_directed)(zurkeb_format, uint32_t, zurkeb_number);
     zurkeb_rounded_answer (*of_two)(zurkeb_format, uint32_t, zurkeb_number, zurkeb_number);
     outcome (*other)(zurkeb_format, uint32_t, const zurkeb_number *);
 } call;
@@ -102,6 +103,8 @@ static const call calls[] = {
     {"ulp_upward", 1, false, .of_one = zurkeb_ulp_upward},
     {"ulp_toward_zero", 1, false, .of_one = zurkeb_ulp_toward_zero},
     {"ulp_toward_zero_unbranched", 1, false, .of_one = zurkeb_ulp_toward_zero_unbranched},
+    {"ufp_by_successor", 1, true, .of_one_directed = zurkeb_ufp_by_successor},
+    {"ulp_by_successor", 1, true, .of_one_directed = zurkeb_ulp_by_successor},
     {"sum", 2, true, .of_two = zurkeb_sum},
     {"difference", 2, true, .of_two = zurkeb_difference},
     {"product", 2, true, .of_two = zurkeb_product},
@@ -119,8 +122,8 @@ static outcome answer(const call *c, zurkeb_format f, uint32_t direction, const 
     if (c->other)
         return c->other(f, direction, x);
     outcome o = {0};
-    if (c->of_one) {
-        zurkeb_number_answer r = c->of_one(f, x[0]);
+    if (c->of_one || c->of_one_directed) {
+        zurkeb_number_answer r = c->of_one ? c->of_one(f, x[0]) : c->of_one_directed(f, direction, x[0]);
         o.refusal = r.refusal;
         put(o.fields, r.number);
     } else {

@@ -4,5 +4,6 @@ pub mod Lines
 pub mod Chains
 pub mod FirstFigure
 pub mod LastFigures
+pub mod SuccessorFigures
 pub mod RouteLaws
 pub mod RouteValues

@@ -1,6 +1,6 @@
--- Rump's figures 1, 3, 4 and 5 (source document 000), line by line: each line is one of the engine's operations on numbers of the
+-- Rump's figures 1, 3, 4, 5 and 6 (source document 000), line by line: each line is one of the engine's operations on numbers of the
 -- format f, and a line that is refused ends the figure. x is |f| of the source.
-use Prim.Native.Nat.{ℕ, _*_, _-_, _^_}
+use Prim.Native.Nat.{ℕ, _+_, _*_, _-_, _^_}
 use mathlib.Core.Path.{_≡_}
 use mathlib.Core.Bool.{true, false, cond}
 use Rattle.theory.specs.declared.Direction.{Direction}
@@ -10,24 +10,32 @@ use Rattle.format.specs.Given.{Given, gives, refused, refusedAt, _then_}
 use Rattle.number.specs.declared.Number.{Number}
 use Rattle.number.specs.declared.NumberAnswer.{NumberAnswer}
 use Rattle.number.specs.Answers.{numberGiven}
-use Rattle.number.specs.Exponents.{belowZero}
+use Rattle.number.specs.Exponents.{aboveZero, belowZero}
 use Rattle.number.specs.Numbers.{equalZ, member, value, number}
 use Rattle.arithmetic.specs.Operations.{roundedSum, roundedDifference, roundedProduct}
+use Rattle.units.specs.Neighbours.{successorOf}
 use Rattle.rump.specs.declared.LineOperation.{LineOperation}
 use Rattle.rump.specs.declared.LineOperation.the-variants.{Sum, Difference, Product}
 
--- ---- the constants, for Emin at most 0
--- 1 in units of β ^ Emin
+-- ---- the constants
+-- 1 in units of β ^ Emin, for Emin at most 0
 abbrev pub one : Format → ℕ
 one f = f .base ^ belowZero (f .emin)
 
--- β ^ k
+-- β ^ k, for Emin at most 0
 abbrev pub power : Format → ℕ → Number
 power f k = number f false (f .base ^ k * one f)
 
 -- the smallest positive number
 abbrev pub subrealmin : Format → Number
 subrealmin f = number f false 1
+
+-- β ^ (p - 1), for Emin at most p - 1: β ^ (p - 1 - Emin) units
+abbrev pub leadPlace : Format → ℕ
+leadPlace f = f .digits - 1 + belowZero (f .emin) - aboveZero (f .emin)
+
+abbrev pub lead : Format → Number
+lead f = number f false (f .base ^ leadPlace f)
 
 -- ---- a line of the code: an operation on what two lines gave, or the refusal that one of them met
 abbrev pub operationOf : LineOperation → Format → Direction → (a b : Number) → Given Number
@@ -93,3 +101,16 @@ figure5 f x =
     roundedDifference f TowardZero (power f 1) (power f 0) then λ b.
     roundedProduct f TowardZero b d then λ c.
     roundedDifference f TowardZero S c
+
+-- ---- with the successor, in any direction d
+-- the last place, figure 3 with the successor: s = succ(x), S = s - x
+unfoldable pub gapAbove : Format → Direction → Number → Given Number
+gapAbove f d x =
+    successorOf f x then λ s.
+    roundedDifference f d s x
+
+-- the first place, figure 6: y = x β ^ (p - 1), s = succ(y), S = s - y
+unfoldable pub figure6 : Format → Direction → Number → Given Number
+figure6 f d x =
+    roundedProduct f d x (lead f) then λ y.
+    gapAbove f d y

@@ -1,5 +1,5 @@
 -- The premises of Rump's routes, as document 01 decides them.
-use Prim.Native.Nat.{_^_, _+_, _-_}
+use Prim.Native.Nat.{_^_, _+_, _*_, _-_}
 use mathlib.Core.Path.{_≡_}
 use mathlib.Core.Bool.{Bool, true, not}
 use lib.Dec.{ltb, eqb}
@@ -15,7 +15,7 @@ use Rattle.number.specs.Checks.{Usable}
 use Rattle.rump.specs.declared.Figure.{Figure}
 use Rattle.rump.specs.declared.Figure.the-variants.{First, Third, Fourth, Fifth}
 
--- for all routes: Emin ≤ -p and p ≤ Emax
+-- for figures 1, 3, 4 and 5: Emin ≤ -p and p ≤ Emax
 unfoldable pub premise : Format → Bool
 premise f = leZ (f .emin) (negℤ (pos (f .digits))) and leZ (pos (f .digits)) (f .emax)
 
@@ -27,7 +27,20 @@ firstPremise f x = premise f and ltb (magnitude f x) (f .base ^ (highestPlace f 
 unfoldable pub lastPremise : Format → Number → Bool
 lastPremise f x = premise f and not (eqb (magnitude f x) 0) and not (eqb (magnitude f x) (greatest f))
 
--- of each figure
+-- ---- with the successor, in any direction
+-- figure 3: x is not zero, and |x| is not the greatest number
+unfoldable pub nextPremise : Format → Number → Bool
+nextPremise f x = not (eqb (magnitude f x) 0) and not (eqb (magnitude f x) (greatest f))
+
+-- Emin ≤ p - 1 and 0 ≤ Emax: β ^ (p - 1) is a number of the format
+unfoldable pub leadPremise : Format → Bool
+leadPremise f = leZ (f .emin) (pos (f .digits - 1)) and leZ (pos 0) (f .emax)
+
+-- figure 6: that, x is not zero, and |x| β ^ (p - 1) is less than the greatest number: |x| < (β ^ p - 1) β ^ (Emax - p + 1)
+unfoldable pub scaledPremise : Format → Number → Bool
+scaledPremise f x = leadPremise f and not (eqb (magnitude f x) 0) and ltb (magnitude f x * f .base ^ (f .digits - 1)) (greatest f)
+
+-- ---- of each figure
 abbrev pub premiseOf : Figure → Format → Number → Bool
 premiseOf First f x = firstPremise f x
 premiseOf Third f x = lastPremise f x

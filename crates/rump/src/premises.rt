@@ -15,7 +15,7 @@ ghost use lib.Dec.{ltb};
 ghost use Rattle.format.specs.Formats.{admitted};
 ghost use Rattle.number.specs.Checks.{Usable, Operand};
 ghost use Rattle.number.specs.Numbers.{member, magnitude};
-ghost use Rattle.rump.specs.Premises.{Run, premise, firstPremise, lastPremise, premiseOf};
+ghost use Rattle.rump.specs.Premises.{Run, premise, firstPremise, lastPremise, nextPremise, leadPremise, premiseOf};
 
 // Emin ≤ -p and p ≤ Emax.
 fn exponents_suffice(prepared: Prepared) -> bool
@@ -51,10 +51,10 @@ fn first_premise(prepared: Prepared, x: Number) -> bool
     is_smaller(prepared.format, x, bound)
 }
 
-// Figures 3, 4 and 5 take x that is neither zero nor the greatest number.
-fn last_premise(prepared: Prepared, x: Number) -> bool
-    requires { ⌜ Run prepared x ⌝ }
-    ensures { λ r. ⌜ r ≡ lastPremise (prepared .format) x ⌝ }
+// Is x neither zero nor plus or minus the greatest number?
+pub fn is_inner(prepared: Prepared, x: Number) -> bool
+    requires { ⌜ Operand prepared x ⌝ }
+    ensures { λ r. ⌜ r ≡ nextPremise (prepared .format) x ⌝ }
 {
     let bound = prepared.scale.bound;
     if x.significand == 0 {
@@ -62,6 +62,25 @@ fn last_premise(prepared: Prepared, x: Number) -> bool
     }
     let greatest = number_at(prepared, false, bound - 1, prepared.highest);
     is_smaller(prepared.format, x, greatest)
+}
+
+// Figures 3, 4 and 5 take x that is neither zero nor the greatest number.
+fn last_premise(prepared: Prepared, x: Number) -> bool
+    requires { ⌜ Run prepared x ⌝ }
+    ensures { λ r. ⌜ r ≡ lastPremise (prepared .format) x ⌝ }
+{
+    is_inner(prepared, x)
+}
+
+// Is base^(p - 1) a number of the format: Emin ≤ p - 1 and 0 ≤ Emax?
+pub fn has_lead(prepared: Prepared) -> bool
+    requires { ⌜ Usable prepared ⌝ }
+    ensures { λ r. ⌜ r ≡ leadPremise (prepared .format) ⌝ }
+{
+    if prepared.scale.digits - 1 < above_zero(prepared.format.emin) {
+        return false;
+    }
+    0 <= prepared.format.emax
 }
 
 pub fn premise_holds(figure: Figure, prepared: Prepared, x: Number) -> bool
