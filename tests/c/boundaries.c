@@ -1,5 +1,5 @@
-/* Sums of boundaries against plain C: the machine's float arithmetic step by step (fesetround), the refusals and their order, and
- * the bound itself in exact integers. Prints how many comparisons were made; stops with an error at the first difference. */
+/* Sums of boundaries against plain C: the machine's float arithmetic step by step (fesetround), in direction 1 exact integers rounded, the
+ * refusals and their order, and the bound itself in exact integers. Prints how many comparisons were made; stops with an error at the first difference. */
 #include <fenv.h>
 #include <stdbool.h>
 #include <string.h>
@@ -88,34 +88,80 @@ static void bound(uint32_t sum, size_t length, uint32_t direction, const exact *
         same("exact", (uint64_t)memcmp(&off, &zero, sizeof off), 0);
 }
 
-/* ---- the machine's sum */
+/* ---- direction 1, which the machine has not: the exact sum of two patterns rounded to nearest, ties away from zero */
+static bool bit_of(const exact *x, int i) { return x->words[i / 32] >> i % 32 & 1; }
+
+static int bits_of(const exact *x) {
+    int bits = 32 * WORDS;
+    while (bits > 0 && !bit_of(x, bits - 1))
+        bits--;
+    return bits;
+}
+
+/* The pattern of a value in units of 2^-149; an infinity where it is too large. */
+static uint32_t nearest_away(exact x) {
+    uint32_t sign = is_negative(&x) ? 0x80000000u : 0, significand = 0;
+    x = absolute(x);
+    int place = bits_of(&x) <= 24 ? 0 : bits_of(&x) - 24;
+    if (place > 0) {
+        exact half = {{0}};
+        half.words[(place - 1) / 32] = 1u << (place - 1) % 32;
+        plus(&x, &half);
+        place = bits_of(&x) - 24;
+    }
+    for (int i = 23; i >= 0; i--)
+        significand = 2 * significand + bit_of(&x, place + i);
+    if (significand < 0x800000)
+        return sign | significand;
+    return place + 1 > 254 ? sign | 0x7f800000u : sign | (uint32_t)(place + 1) << 23 | (significand & 0x7fffff);
+}
+
+static uint32_t add_away(uint32_t a, uint32_t b) {
+    exact x = {{0}};
+    add_value(&x, a, 0);
+    add_value(&x, b, 0);
+    if (bits_of(&x) == 0)
+        return a == b ? a : 0; /* two zeros of one sign keep it, else plus */
+    return nearest_away(x);
+}
+
+/* ---- the sum in plain C */
 typedef struct model {
     uint32_t refusal, sum, index;
     exact sizes;
 } model;
 
-static void machine_sum(model *m, size_t length, uint32_t direction) {
+/* The rounded sum of two patterns; an infinity where it is too large, in every direction. */
+static uint32_t add(uint32_t a, uint32_t b, uint32_t direction) {
+    if (modes[direction] < 0)
+        return add_away(a, b);
+    volatile float left = of_pattern(a), right = of_pattern(b), sum;
+    fesetround(modes[direction]);
+    feclearexcept(FE_ALL_EXCEPT);
+    sum = left + right;
+    bool too_large = fetestexcept(FE_OVERFLOW);
+    fesetround(FE_TONEAREST);
+    return too_large ? 0x7f800000u : pattern_of(sum);
+}
+
+static uint32_t minus(uint32_t n) { return n ^ 0x80000000u; }
+
+static void plain_sum(model *m, size_t length, uint32_t direction) {
     uint32_t x = strips[0];
     memset(m, 0, sizeof *m);
-    fesetround(modes[direction]);
-    for (size_t i = 1; i < length && m->refusal == 0; i++) {
+    for (size_t i = 1; i < length; i++) {
         bool turned = size_of(x) < size_of(strips[i]);
-        volatile float a = of_pattern(turned ? strips[i] : x), b = of_pattern(turned ? x : strips[i]), s, z, y;
-        feclearexcept(FE_ALL_EXCEPT);
-        s = a + b;
-        if (fetestexcept(FE_OVERFLOW)) {
+        uint32_t a = turned ? strips[i] : x, b = turned ? x : strips[i];
+        x = add(a, b, direction);
+        if (size_of(x) == 0x7f800000u) {
             m->refusal = ZURKEB_TOO_LARGE;
             m->index = (uint32_t)i;
-            break;
+            return;
         }
-        z = s - a;
-        y = b - z;
-        wanted[i - 1] = pattern_of(y);
-        x = pattern_of(s);
+        wanted[i - 1] = add(b, minus(add(x, minus(a), direction)), direction);
         add_value(&m->sizes, size_of(x), 0);
     }
-    fesetround(FE_TONEAREST);
-    m->sum = m->refusal == 0 ? x : 0;
+    m->sum = x;
 }
 
 /* ---- one call: its answer, and rests as they were at a refusal */
@@ -137,16 +183,11 @@ static void refused(const char *what, zurkeb_boundary_answer r, uint32_t refusal
     same(what, r.index, index);
 }
 
-static void against_machine(size_t length) {
+static void against_plain(size_t length) {
     static model m;
     for (uint32_t d = 0; d < 5; d++) {
         zurkeb_boundary_answer r = call(length, length - 1, d);
-        if (modes[d] < 0) { /* ties away: the machine has none; the sum is exact all the same */
-            if (r.refusal == 0)
-                bound(r.sum, length, d, &(exact){{0}});
-            continue;
-        }
-        machine_sum(&m, length, d);
+        plain_sum(&m, length, d);
         if (m.refusal != 0) {
             refused("too large", r, m.refusal, 1, m.index);
             continue;
@@ -177,7 +218,7 @@ static void random_sums(uint64_t rounds) {
             if (i > 0 && random32() % 4 == 0) /* equal magnitudes, and sums that cancel */
                 strips[i] = strips[i - 1] ^ (random32() & 0x80000000u);
         }
-        against_machine(length);
+        against_plain(length);
     }
 }
 
@@ -185,10 +226,10 @@ static void long_sums(void) {
     for (size_t length = MOST - 1; length <= MOST; length++) {
         for (size_t i = 0; i < length; i++)
             strips[i] = random_strip(110, 30);
-        against_machine(length);
+        against_plain(length);
     }
     strips[MOST - 1] = strips[MOST - 2] = 0x7f7fffffu; /* the last strip makes the sum too large */
-    against_machine(MOST);
+    against_plain(MOST);
 }
 
 /* Each refusal and the order 18, 11, 2, 9, 5; a lone strip. */
