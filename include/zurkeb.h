@@ -1,14 +1,21 @@
 /* Zurkeb: proved floating-point arithmetic for any base from 2 to 256.
  *
- * Every call takes anything: it answers, or refuses by a number of enum zurkeb_refusal. An answer struct begins with the refusal,
- * 0 for none; at a refusal its other fields are zero, except `indexed` and `index` where the refusal has an index. Numbers and formats
- * go by value. A slice goes as a pointer and a length; the caller sees to it that the pointer leads to that many entries. */
+ * Every call takes anything: it answers, or refuses by a number of enum zurkeb_refusal (zurkeb_refusal_text has a short text for each). A
+ * call's refusals are listed in the order in which they are looked for: the quotient's are 1, 2, 3, 4, 5, the pattern quotient's 2, 9, 4, 5.
+ * An answer struct begins with the refusal, 0 for none; at a refusal its other fields are zero, except `indexed` and `index` where the
+ * refusal has an index. Numbers and formats go by value. A slice goes as a pointer and a length; the caller sees to it that the pointer
+ * leads to that many entries; NULL with length 0 is accepted.
+ *
+ * No call keeps state, allocates memory or calls anything outside the library, so all are reentrant and may run in threads or interrupts.
+ * Patterns are integers in the machine's byte order. The direction is the second argument of the calls that take a format, and the last one
+ * of the calls on patterns, where a wrong order compiles: zurkeb_pattern_sum(a, b, direction). */
 #ifndef ZURKEB_H
 #define ZURKEB_H
 
-#include <stdbool.h>
 #include <stddef.h>
 #include <stdint.h>
+
+#define ZURKEB_VERSION "1.0.0"
 
 #ifdef __cplusplus
 extern "C" {
@@ -26,7 +33,7 @@ enum zurkeb_refusal {
     ZURKEB_PREMISE_FAILS = 8,
     ZURKEB_NOT_FINITE = 9,
     ZURKEB_NO_SUCH_FORMAT = 10,
-    ZURKEB_LENGTHS_DIFFER = 11, /* or more than 4,096 queries */
+    ZURKEB_LENGTHS_DIFFER = 11, /* or more than 4,096 queries, or rests that are not one entry shorter than the strips */
     ZURKEB_LIST_LENGTH = 12,    /* empty, or longer than 4,096 */
     ZURKEB_LIST_DESCENDS = 13,
     ZURKEB_OUT_TOO_SHORT = 14,
@@ -49,7 +56,10 @@ enum zurkeb_direction {
  * greater magnitude. This is MPFR's ternary value. */
 enum zurkeb_mark { ZURKEB_EXACT = 0, ZURKEB_LOW = 1, ZURKEB_HIGH = 2 };
 
-/* Base, digits, lowest and highest exponent of the whole-number significand. */
+/* Base, digits, lowest and highest exponent of the whole-number significand; IEEE 754's exponents are greater by digits - 1. A format is
+ * admitted if 2 <= base <= 256, 1 <= digits <= 63, base^digits <= 2^63 and -1200 <= emin <= emax <= 1200. The most digits that a base allows:
+ *     base     2   3   4   5   7   8  10  12  16  36  60 100 256
+ *     digits  63  39  31  27  22  21  18  17  15  12  10   9   7 */
 typedef struct zurkeb_format {
     uint32_t base;
     uint32_t digits;
@@ -57,8 +67,13 @@ typedef struct zurkeb_format {
     int32_t emax;
 } zurkeb_format;
 
-/* The value (-1)^negative * significand * base^exponent. Zero has either sign, and exponent emin. In an answer `negative` is 0 or 1; a
- * number that is handed over with any other value there is in no format, and is refused by 3, by zurkeb_convert too. */
+/* The value (-1)^negative * significand * base^exponent. A number is in a format if it is
+ *     normal: base^(digits-1) <= significand < base^digits and emin <= exponent <= emax,
+ *     small:  0 < significand < base^(digits-1) and exponent = emin, or
+ *     zero:   significand = 0 and exponent = emin; zero has either sign.
+ * So {1, 0, 0} is in no decimal format with 7 digits and emin below 0, and is refused by 3: the number one is {1000000, -6, 0} there.
+ * zurkeb_convert makes it. In an answer `negative` is 0 or 1; a number that is handed over with any other value there is in no format, and is
+ * refused by 3, by zurkeb_convert too. */
 typedef struct zurkeb_number {
     uint64_t significand;
     int32_t exponent;
@@ -150,11 +165,8 @@ typedef struct zurkeb_stretch_answer {
     uint64_t index;   /* of the first pattern that is refused by 9, counted from its log's start */
 } zurkeb_stretch_answer;
 
-#ifdef __cplusplus
-#define ZURKEB_SIZE(type, size) static_assert(sizeof(type) == (size), #type)
-#else
-#define ZURKEB_SIZE(type, size) _Static_assert(sizeof(type) == (size), #type)
-#endif
+/* The structs are laid out as the library has them, or this header does not compile. */
+#define ZURKEB_SIZE(type, size) typedef char type##_has_##size##_bytes[sizeof(type) == (size) ? 1 : -1]
 ZURKEB_SIZE(zurkeb_format, 16);
 ZURKEB_SIZE(zurkeb_number, 16);
 ZURKEB_SIZE(zurkeb_number_answer, 24);
@@ -200,7 +212,7 @@ zurkeb_check_answer zurkeb_within_one_step(zurkeb_format format, zurkeb_number a
 
 /* The exact result, rounded once in the direction. An exact sum of zero is plus zero, in direction 4 minus zero, unless both numbers have
  * one sign, which zero keeps; a difference is the sum with b negated. A product or quotient has the signs' exclusive or, at zero too.
- * Refuse 1, 2, 3, 5; the quotient also 4. */
+ * Refuse 1, 2, 3, 5; the quotient 1, 2, 3, 4, 5. */
 zurkeb_rounded_answer zurkeb_sum(zurkeb_format format, uint32_t direction, zurkeb_number a, zurkeb_number b);
 zurkeb_rounded_answer zurkeb_difference(zurkeb_format format, uint32_t direction, zurkeb_number a, zurkeb_number b);
 zurkeb_rounded_answer zurkeb_product(zurkeb_format format, uint32_t direction, zurkeb_number a, zurkeb_number b);
@@ -216,7 +228,8 @@ zurkeb_rounded_answer zurkeb_fraction(zurkeb_format format, uint32_t direction, 
 zurkeb_rounded_answer zurkeb_convert(zurkeb_format format, uint32_t direction, zurkeb_number x);
 
 /* Rump's routes by the operations alone: the first place by figure 1, the last place by figures 3, 4 and 5. Where the premise
- * holds they answer what zurkeb_ufp and zurkeb_ulp answer. Refuse 1, 3, 8. */
+ * holds they answer what zurkeb_ufp and zurkeb_ulp answer. The premise of all: emin <= -digits and digits <= emax (so never in binary16); of
+ * the first |x| < base^(emax - digits + 1), of the others that x is neither zero nor plus or minus the greatest number. Refuse 1, 3, 8. */
 zurkeb_number_answer zurkeb_ufp_toward_zero(zurkeb_format format, zurkeb_number x);
 zurkeb_number_answer zurkeb_ulp_upward(zurkeb_format format, zurkeb_number x);
 zurkeb_number_answer zurkeb_ulp_toward_zero(zurkeb_format format, zurkeb_number x);
@@ -249,7 +262,7 @@ zurkeb_pattern64_answer zurkeb_write_binary64(zurkeb_number x);
 uint64_t zurkeb_write_pattern(zurkeb_number x);
 /* The pattern of a number of published format 3, by its own m and e. Refuses 3. */
 uint64_t zurkeb_write_decimal32(zurkeb_number x);
-/* Sum, difference, product and quotient of binary32 patterns. Refuse 2, 9, 5; the quotient also 4. */
+/* Sum, difference, product and quotient of binary32 patterns; the direction comes last. Refuse 2, 9, 5; the quotient 2, 9, 4, 5. */
 uint64_t zurkeb_pattern_sum(uint32_t a, uint32_t b, uint32_t direction);
 uint64_t zurkeb_pattern_difference(uint32_t a, uint32_t b, uint32_t direction);
 uint64_t zurkeb_pattern_product(uint32_t a, uint32_t b, uint32_t direction);
@@ -273,13 +286,15 @@ zurkeb_position_answer zurkeb_nearest_line(const uint32_t *offsets, size_t lengt
 /* The positions of all offsets at most the distance away from the query, edge included, in out from its first entry on, the
  * nearest first and at equal distance the smaller offset first, and how many; a distance below zero finds none. Refuses 12, 9 (in
  * the list with its index; then the query, then the distance), 13, 15, and 14 where out is shorter than the number found. Entries
- * past the last one found are unchanged, and a refused call leaves out as it was. out must not overlap offsets. */
+ * past the last one found are unchanged, and a refused call leaves out as it was; lend as many entries as there are offsets, and 14 cannot
+ * come. out must not overlap offsets. */
 zurkeb_reach_answer zurkeb_lines_within(const uint32_t *offsets, size_t length, uint32_t query, uint32_t distance, uint32_t *out,
                                           size_t out_length);
 /* zurkeb_nearest_line for each of a row of queries, which ascend by value, equal ones allowed: the positions in out, and how many lines
  * were looked at, at most the saved lines and twice the queries. After each query the search goes on from the line just found. Refuses
  * 11 (unequal query and answer lengths, or more than 4,096 queries), then the list by 12, 9 (with its index), 13, 15, then the queries
- * by 9 (with its index), 16 where they descend. A refused call leaves out as it was. out must not overlap offsets or queries. */
+ * by 9 (with its index), 16 where they descend. Whose index stands beside 9 is told by the list alone: it is of the list where
+ * offsets[index] is an infinity or NaN, else of the queries. A refused call leaves out as it was. out must not overlap offsets or queries. */
 zurkeb_row_answer zurkeb_nearest_lines(const uint32_t *offsets, size_t length, const uint32_t *queries, size_t query_length,
                                            uint32_t *out, size_t out_length);
 
@@ -289,6 +304,44 @@ zurkeb_row_answer zurkeb_nearest_lines(const uint32_t *offsets, size_t length, c
  * call leaves rests as it was. rests must not overlap strips. */
 zurkeb_boundary_answer zurkeb_boundary_sum(const uint32_t *strips, size_t length, uint32_t *rests, size_t rests_length,
                                           uint32_t direction);
+
+/* ---- conveniences, in plain C */
+/* The published formats by name; zurkeb_published has them by number. */
+static const zurkeb_format ZURKEB_BINARY16 = {2, 11, -24, 5};
+static const zurkeb_format ZURKEB_BINARY32 = {2, 24, -149, 104};
+static const zurkeb_format ZURKEB_DECIMAL32 = {10, 7, -101, 90};
+static const zurkeb_format ZURKEB_BINARY64 = {2, 53, -1074, 971};
+static const zurkeb_format ZURKEB_DECIMAL64 = {10, 16, -398, 369};
+
+/* The two halves of a 64-bit pattern answer. */
+static inline uint32_t zurkeb_refusal_of(uint64_t answer) { return (uint32_t)(answer >> 32); }
+static inline uint32_t zurkeb_pattern_of(uint64_t answer) { return (uint32_t)answer; }
+
+/* A short English text for a refusal, "no refusal" for 0 and "no such refusal" for any other number. */
+static inline const char *zurkeb_refusal_text(uint32_t refusal) {
+    static const char *const texts[19] = {
+        "no refusal",
+        "the format is not admitted",
+        "a direction is not 0 to 4",
+        "a number is not in the format",
+        "the divisor or denominator is zero",
+        "the result is too large, or no neighbour exists",
+        "the three-step sum needs base 2 and at least 2 digits",
+        "the first summand is smaller than the second",
+        "the premise of the route does not hold",
+        "a pattern is an infinity or NaN",
+        "no published format has that number",
+        "the slices do not fit each other, or more than 4096 queries",
+        "the list is empty or longer than 4096",
+        "the list descends",
+        "the lent slice is too short for what was found",
+        "the list has two equal neighbours",
+        "the queries descend",
+        "the stretch is empty or runs past the end",
+        "no strips, or more than 4096",
+    };
+    return refusal < 19 ? texts[refusal] : "no such refusal";
+}
 
 #ifdef __cplusplus
 }

@@ -148,7 +148,7 @@ static void with_digits(uint32_t base, uint32_t digits, uint64_t rounds) {
 }
 
 int main(int count, char **arguments) {
-    uint64_t rounds = rounds_of(count, arguments, 20);
+    uint64_t rounds = rounds_of(count, arguments, 100000) / 5000; /* in each of many formats */
     for (int i = 0; i < BASES; i++) {
         for (uint32_t digits = 1; digits <= 63 && power(bases[i], digits) != 0; digits++)
             with_digits(bases[i], digits, rounds);
