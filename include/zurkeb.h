@@ -293,8 +293,9 @@ zurkeb_reach_answer zurkeb_lines_within(const uint32_t *offsets, size_t length, 
 /* zurkeb_nearest_line for each of a row of queries, which ascend by value, equal ones allowed: the positions in out, and how many lines
  * were looked at, at most the saved lines and twice the queries. After each query the search goes on from the line just found. Refuses
  * 11 (unequal query and answer lengths, or more than 4,096 queries), then the list by 12, 9 (with its index), 13, 15, then the queries
- * by 9 (with its index), 16 where they descend. Whose index stands beside 9 is told by the list alone: it is of the list where
- * offsets[index] is an infinity or NaN, else of the queries. A refused call leaves out as it was. out must not overlap offsets or queries. */
+ * by 9 (with its index), 16 where they descend. Whose index stands beside 9 is told by the list alone: it is of the list
+ * where index < length and offsets[index] is an infinity or NaN, else of the queries. A refused call leaves out as it was. out must not
+ * overlap offsets or queries. */
 zurkeb_row_answer zurkeb_nearest_lines(const uint32_t *offsets, size_t length, const uint32_t *queries, size_t query_length,
                                            uint32_t *out, size_t out_length);
 
