@@ -6,7 +6,7 @@
  * refusal has an index. Numbers and formats go by value. A slice goes as a pointer and a length; the caller sees to it that the pointer
  * leads to that many entries; NULL with length 0 is accepted.
  *
- * No call keeps state, allocates memory or calls anything outside the library, so all are reentrant and may run in threads or interrupts.
+ * No call keeps state, allocates memory or calls anything outside the library, so all are reentrant, in several threads too.
  * Patterns are integers in the machine's byte order. The direction is the second argument of the calls that take a format, and the last one
  * of the calls on patterns, where a wrong order compiles: zurkeb_pattern_sum(a, b, direction). */
 #ifndef ZURKEB_H
