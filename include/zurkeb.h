@@ -2,8 +2,8 @@
  *
  * Every call takes anything: it answers, or refuses by a number of enum zurkeb_refusal (zurkeb_refusal_text has a short text for each). A
  * call's refusals are listed in the order in which they are looked for: the quotient's are 1, 2, 3, 4, 5, the pattern quotient's 2, 9, 4, 5.
- * An answer struct begins with the refusal, 0 for none; at a refusal its other fields are zero, except `indexed` and `index` where the
- * refusal has an index. Numbers and formats go by value. A slice goes as a pointer and a length; the caller sees to it that the pointer
+ * An answer struct begins with the refusal, 0 for none. At a refusal each of its numbers is {UINT64_MAX, 0, 0}, which is in no format (see
+ * zurkeb_number); its other fields are zero, except `indexed` and `index` where the refusal has an index. Numbers and formats go by value. A slice goes as a pointer and a length; the caller sees to it that the pointer
  * leads to that many entries; NULL with length 0 is accepted.
  *
  * No call keeps state, allocates memory or calls anything outside the library, so all are reentrant, in several threads too.
@@ -73,7 +73,8 @@ typedef struct zurkeb_format {
  *     zero:   significand = 0 and exponent = emin; zero has either sign.
  * So {1, 0, 0} is in no decimal format with 7 digits and emin below 0, and is refused by 3: the number one is {1000000, -6, 0} there.
  * zurkeb_convert makes it. In an answer `negative` is 0 or 1; a number that is handed over with any other value there is in no format, and is
- * refused by 3, by zurkeb_convert too. */
+ * refused by 3, by zurkeb_convert too. The number of a refused answer, {UINT64_MAX, 0, 0}, is in no admitted format either: a caller who goes
+ * on with it is refused by 3, except by zurkeb_convert, which takes any significand. */
 typedef struct zurkeb_number {
     uint64_t significand;
     int32_t exponent;

@@ -195,16 +195,16 @@ static void number_is(const char *what, zurkeb_rounded_answer r, uint64_t m, int
 static void refusals(void) {
     zurkeb_format wrong = {10, 19, -5, 5};
     zurkeb_number bad = {1, 400, 2}, large = {1, 400, 0};
-    refused("format first", zurkeb_convert(wrong, 5, bad), ZURKEB_FORMAT_NOT_ADMITTED);
-    refused("then the direction", zurkeb_convert(decimal32, 5, bad), ZURKEB_NO_SUCH_DIRECTION);
-    refused("then the sign", zurkeb_convert(decimal32, 0, bad), ZURKEB_NUMBER_NOT_IN_FORMAT);
-    refused("the sign of zero", zurkeb_convert(decimal32, 0, (zurkeb_number){0, 0, 2}), ZURKEB_NUMBER_NOT_IN_FORMAT);
-    refused("the greatest sign", zurkeb_convert(decimal32, 0, (zurkeb_number){1, 0, UINT32_MAX}), ZURKEB_NUMBER_NOT_IN_FORMAT);
-    refused("direction", zurkeb_convert(decimal32, UINT32_MAX, large), ZURKEB_NO_SUCH_DIRECTION);
+    same_answer("format first", zurkeb_convert(wrong, 5, bad), refusal_by(ZURKEB_FORMAT_NOT_ADMITTED));
+    same_answer("then the direction", zurkeb_convert(decimal32, 5, bad), refusal_by(ZURKEB_NO_SUCH_DIRECTION));
+    same_answer("then the sign", zurkeb_convert(decimal32, 0, bad), refusal_by(ZURKEB_NUMBER_NOT_IN_FORMAT));
+    same_answer("the sign of zero", zurkeb_convert(decimal32, 0, (zurkeb_number){0, 0, 2}), refusal_by(ZURKEB_NUMBER_NOT_IN_FORMAT));
+    same_answer("the greatest sign", zurkeb_convert(decimal32, 0, (zurkeb_number){1, 0, UINT32_MAX}), refusal_by(ZURKEB_NUMBER_NOT_IN_FORMAT));
+    same_answer("direction", zurkeb_convert(decimal32, UINT32_MAX, large), refusal_by(ZURKEB_NO_SUCH_DIRECTION));
     for (uint32_t direction = 0; direction < 5; direction++) {
-        refused("too large", zurkeb_convert(decimal32, direction, large), ZURKEB_TOO_LARGE);
-        refused("10^97", zurkeb_convert(decimal32, direction, (zurkeb_number){1, 97, 0}), ZURKEB_TOO_LARGE);
-        refused("2^31 - 1", zurkeb_convert(decimal32, direction, (zurkeb_number){1, INT32_MAX, 1}), ZURKEB_TOO_LARGE);
+        same_answer("too large", zurkeb_convert(decimal32, direction, large), refusal_by(ZURKEB_TOO_LARGE));
+        same_answer("10^97", zurkeb_convert(decimal32, direction, (zurkeb_number){1, 97, 0}), refusal_by(ZURKEB_TOO_LARGE));
+        same_answer("2^31 - 1", zurkeb_convert(decimal32, direction, (zurkeb_number){1, INT32_MAX, 1}), refusal_by(ZURKEB_TOO_LARGE));
         number_is("zero far above", zurkeb_convert(decimal32, direction, (zurkeb_number){0, INT32_MAX, 1}), 0, -101, 1, ZURKEB_EXACT);
         number_is("zero far below", zurkeb_convert(decimal32, direction, (zurkeb_number){0, INT32_MIN, 0}), 0, -101, 0, ZURKEB_EXACT);
     }

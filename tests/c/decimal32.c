@@ -4,7 +4,7 @@
  * the number of random rounds. */
 #include <stdbool.h>
 
-#include "compare.h"
+#include "answers.h"
 #include "zurkeb.h"
 #ifdef HAVE_INTEL
 #include <bid_conf.h>
@@ -75,11 +75,9 @@ static uint32_t write_plainly(zurkeb_number x) {
 }
 
 /* ---- comparisons */
-static void same_number(const char *what, zurkeb_number_answer ours, uint32_t refusal, zurkeb_number wanted) {
+static void same_read(const char *what, zurkeb_number_answer ours, uint32_t refusal, zurkeb_number wanted) {
     same(what, ours.refusal, refusal);
-    same(what, ours.number.negative, wanted.negative);
-    same(what, ours.number.significand, wanted.significand);
-    same(what, (uint32_t)ours.number.exponent, (uint32_t)wanted.exponent);
+    same_number(what, ours.number, wanted);
 }
 
 #ifdef HAVE_INTEL
@@ -91,7 +89,7 @@ static zurkeb_number read_by_intel(uint32_t pattern) {
 }
 
 static void against_intel(uint32_t pattern, uint32_t written, zurkeb_number_answer ours) {
-    same_number("read, Intel", ours, 0, read_by_intel(pattern));
+    same_read("read, Intel", ours, 0, read_by_intel(pattern));
     same("written, Intel", written, __bid_to_dpd32(__bid_dpd_to_bid32(written)));
 }
 #endif
@@ -99,13 +97,13 @@ static void against_intel(uint32_t pattern, uint32_t written, zurkeb_number_answ
 static void pattern_goes_round(uint32_t pattern) {
     zurkeb_number_answer first = zurkeb_read_decimal32(pattern);
     if (!is_finite(pattern)) {
-        same_number("not finite", first, ZURKEB_NOT_FINITE, (zurkeb_number){0, 0, 0});
+        same_read("not finite", first, ZURKEB_NOT_FINITE, no_number);
         return;
     }
-    same_number("read", first, 0, read_plainly(pattern));
+    same_read("read", first, 0, read_plainly(pattern));
     uint64_t written = zurkeb_write_decimal32(first.number);
     same("written", written, write_plainly(first.number));
-    same_number("read again", zurkeb_read_decimal32((uint32_t)written), 0, first.number);
+    same_read("read again", zurkeb_read_decimal32((uint32_t)written), 0, first.number);
 #ifdef HAVE_INTEL
     against_intel(pattern, (uint32_t)written, first);
 #endif

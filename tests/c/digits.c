@@ -3,7 +3,7 @@
  * exactly where nothing remains. An argument is the number of random rounds, each a quotient in every format. */
 #include <stdbool.h>
 
-#include "compare.h"
+#include "answers.h"
 #include "zurkeb.h"
 
 static const zurkeb_format formats[] = {
@@ -66,6 +66,7 @@ static void quotient(zurkeb_format f, zurkeb_number a, zurkeb_number b) {
     if (r.refusal != 0) {
         same("refusal", r.refusal, b.significand == 0 ? ZURKEB_DIVISOR_ZERO : ZURKEB_TOO_LARGE);
         same("digits of a refusal", r.digits, 0);
+        same_number("number of a refusal", r.number, no_number);
         return;
     }
     division wanted = divided(f, a, b);

@@ -86,14 +86,14 @@ static void edges(zurkeb_format f) {
 
 static void refusals(void) {
     zurkeb_format d = {10, 3, -5, 5}, wrong = {1, 3, -5, 5}, tiny = {2, 24, -149, -140};
-    refused("format", zurkeb_fraction(wrong, 5, 1, 0), ZURKEB_FORMAT_NOT_ADMITTED);
-    refused("direction", zurkeb_fraction(d, 5, 1, 0), ZURKEB_NO_SUCH_DIRECTION);
-    refused("direction", zurkeb_fraction(d, (uint32_t)-1, 1, 1), ZURKEB_NO_SUCH_DIRECTION);
-    refused("zero", zurkeb_fraction(d, 0, 1, 0), ZURKEB_DIVISOR_ZERO);
-    refused("zero over zero", zurkeb_fraction(d, 0, 0, 0), ZURKEB_DIVISOR_ZERO);
-    refused("zero before too large", zurkeb_fraction(tiny, 0, INT32_MAX, 0), ZURKEB_DIVISOR_ZERO);
-    refused("too large", zurkeb_fraction(tiny, 0, INT32_MAX, 1), ZURKEB_TOO_LARGE);
-    refused("too large", zurkeb_fraction(d, ZURKEB_TOWARD_ZERO, 100000000, 1), ZURKEB_TOO_LARGE);
+    same_answer("format", zurkeb_fraction(wrong, 5, 1, 0), refusal_by(ZURKEB_FORMAT_NOT_ADMITTED));
+    same_answer("direction", zurkeb_fraction(d, 5, 1, 0), refusal_by(ZURKEB_NO_SUCH_DIRECTION));
+    same_answer("direction", zurkeb_fraction(d, (uint32_t)-1, 1, 1), refusal_by(ZURKEB_NO_SUCH_DIRECTION));
+    same_answer("zero", zurkeb_fraction(d, 0, 1, 0), refusal_by(ZURKEB_DIVISOR_ZERO));
+    same_answer("zero over zero", zurkeb_fraction(d, 0, 0, 0), refusal_by(ZURKEB_DIVISOR_ZERO));
+    same_answer("zero before too large", zurkeb_fraction(tiny, 0, INT32_MAX, 0), refusal_by(ZURKEB_DIVISOR_ZERO));
+    same_answer("too large", zurkeb_fraction(tiny, 0, INT32_MAX, 1), refusal_by(ZURKEB_TOO_LARGE));
+    same_answer("too large", zurkeb_fraction(d, ZURKEB_TOWARD_ZERO, 100000000, 1), refusal_by(ZURKEB_TOO_LARGE));
 }
 
 /* In binary with 31 digits every numerator over 1 is unchanged, but for -2^31, which is 5 where Emax = 0. */
@@ -118,7 +118,7 @@ static void numerators(void) {
         unchanged(binary[i], -INT32_MAX);
         unchanged(binary[i], 0);
         if (binary[i].emax == 0)
-            refused("-2^31", zurkeb_fraction(binary[i], 0, INT32_MIN, 1), ZURKEB_TOO_LARGE);
+            same_answer("-2^31", zurkeb_fraction(binary[i], 0, INT32_MIN, 1), refusal_by(ZURKEB_TOO_LARGE));
         else
             unchanged(binary[i], INT32_MIN);
     }

@@ -1,4 +1,5 @@
-/* The conveniences of the header: texts of the refusals, named formats against zurkeb_published, the halves of a pattern answer. */
+/* The conveniences of the header: texts of the refusals, named formats against zurkeb_published, the halves of a pattern answer; and what
+ * it says beside the calls. */
 #include <string.h>
 
 #include "compare.h"
@@ -59,6 +60,16 @@ static void one(void) {
     same("exponent", (uint64_t)r.number.exponent, (uint64_t)-6);
 }
 
+/* A caller who does not look at a refusal and sums on with what stands beside it is refused, where {0, 0, 0} would be a zero too. */
+static void summed_on(void) {
+    zurkeb_format format = {10, 9, 0, 3};
+    zurkeb_number greatest = {999999999, 3, 0}, one = {1, 0, 0};
+    zurkeb_number sum = zurkeb_sum(format, ZURKEB_NEAREST_EVEN, greatest, greatest).number;
+    same("no number", zurkeb_check_number(format, sum), ZURKEB_NUMBER_NOT_IN_FORMAT);
+    same("summed on", zurkeb_sum(format, ZURKEB_NEAREST_EVEN, sum, one).refusal, ZURKEB_NUMBER_NOT_IN_FORMAT);
+    same("no format", zurkeb_check_format(zurkeb_published(0).format), ZURKEB_FORMAT_NOT_ADMITTED);
+}
+
 /* NULL with length 0. */
 static void nothing(void) {
     same("sum_slices", zurkeb_sum_slices(NULL, 0, NULL, 0, NULL, 0, ZURKEB_NEAREST_EVEN).refusal, ZURKEB_NONE);
@@ -73,6 +84,7 @@ int main(void) {
     most_digits();
     halves();
     one();
+    summed_on();
     nothing();
     return no_difference();
 }

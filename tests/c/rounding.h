@@ -1,12 +1,11 @@
 /* A plain rounding in 128-bit integers for the C tests: whole steps at an exponent and what remains of a divisor, rounded into a format in
- * each direction, with the mark; and answers compared field by field. */
+ * each direction, with the mark. */
 #ifndef ROUNDING_H
 #define ROUNDING_H
 
 #include <stdbool.h>
 
-#include "compare.h"
-#include "zurkeb.h"
+#include "answers.h"
 
 typedef unsigned __int128 wide;
 
@@ -46,25 +45,9 @@ static inline zurkeb_rounded_answer rounded(zurkeb_format f, uint32_t direction,
         e++;
     }
     if (e > f.emax)
-        return (zurkeb_rounded_answer){.refusal = ZURKEB_TOO_LARGE};
+        return refusal_by(ZURKEB_TOO_LARGE);
     uint32_t side = takes_next(direction, negative, s) != negative ? ZURKEB_HIGH : ZURKEB_LOW;
     return (zurkeb_rounded_answer){0, s.rest == 0 ? ZURKEB_EXACT : side, {(uint64_t)m, (int32_t)e, negative}};
-}
-
-static inline void same_number(const char *what, zurkeb_number ours, zurkeb_number wanted) {
-    same(what, ours.significand, wanted.significand);
-    same(what, (uint32_t)ours.exponent, (uint32_t)wanted.exponent);
-    same(what, ours.negative, wanted.negative);
-}
-
-static inline void same_answer(const char *what, zurkeb_rounded_answer ours, zurkeb_rounded_answer wanted) {
-    same(what, ours.refusal, wanted.refusal);
-    same(what, ours.mark, wanted.mark);
-    same_number(what, ours.number, wanted.number);
-}
-
-static inline void refused(const char *what, zurkeb_rounded_answer ours, uint32_t wanted) {
-    same_answer(what, ours, (zurkeb_rounded_answer){.refusal = wanted});
 }
 
 #endif

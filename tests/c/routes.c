@@ -4,7 +4,7 @@
  * are tried in each format. */
 #include <stdbool.h>
 
-#include "compare.h"
+#include "answers.h"
 #include "zurkeb.h"
 
 enum { DIRECTIONS = 5, LIMIT = 1200 };
@@ -61,9 +61,8 @@ static bool is_scalable(zurkeb_format f, zurkeb_number x) {
 static uint64_t held, failed;
 
 static void answered(const char *name, zurkeb_number_answer r, bool holds, zurkeb_number wanted, zurkeb_number_answer call) {
-    const zurkeb_number nothing = {0, 0, 0};
     same(name, r.refusal, holds ? 0 : ZURKEB_PREMISE_FAILS);
-    same(name, same_record(r.number, holds ? wanted : nothing), 1);
+    same(name, same_record(r.number, holds ? wanted : no_number), 1);
     if (holds)
         same(name, call.refusal == 0 && same_record(r.number, call.number), 1);
     holds ? held++ : failed++;
@@ -82,10 +81,9 @@ static void routes(zurkeb_format f, zurkeb_number x) {
 /* 1 before 2 before 3 before 8. */
 static void refused(zurkeb_format f, uint32_t direction, zurkeb_number x, uint32_t wanted) {
     zurkeb_number_answer first = zurkeb_ufp_by_successor(f, direction, x), last = zurkeb_ulp_by_successor(f, direction, x);
-    const zurkeb_number nothing = {0, 0, 0};
     same("ufp_by_successor", first.refusal, wanted);
     same("ulp_by_successor", last.refusal, wanted);
-    same("a refusal has no number", same_record(first.number, nothing) && same_record(last.number, nothing), 1);
+    same("a refusal has no number", same_record(first.number, no_number) && same_record(last.number, no_number), 1);
 }
 
 static void refusals(zurkeb_format f) {

@@ -1,9 +1,9 @@
 /* The sign of a number that C hands over: 0 and 1 are taken, any other is refused by 3, by each call that takes numbers and in each
- * place of an operand, after refusals 1 and 2 and before all others. An argument is the number of random rounds. */
+ * place of an operand, after refusals 1 and 2 and before all others; and so is the number of a refused answer. An argument is the number of random rounds. */
 #include <stdbool.h>
 #include <string.h>
 
-#include "compare.h"
+#include "answers.h"
 #include "zurkeb.h"
 
 static const zurkeb_format formats[] = {
@@ -20,14 +20,14 @@ enum { BAD_SIGNS = sizeof bad_signs / sizeof *bad_signs };
 static uint32_t random_bad_sign(void) { return 2 + random32() % (UINT32_MAX - 1); }
 
 /* ---- the calls, each with its operands in an array */
-/* The refusal, and the other fields of the answer. */
+/* The refusal, and the other fields of the answer, numbers first. */
 typedef struct outcome {
-    uint32_t refusal, fields[12];
+    uint32_t refusal, fields[12], numbers;
 } outcome;
 
-static void put(uint32_t *fields, zurkeb_number x) {
+static void put(outcome *o, zurkeb_number x) {
     same("an answer's sign is 0 or 1", x.negative <= 1, 1);
-    memcpy(fields, &x, sizeof x);
+    memcpy(o->fields + 4 * o->numbers++, &x, sizeof x);
 }
 
 static outcome check_number(zurkeb_format f, uint32_t direction, const zurkeb_number *x) {
@@ -38,20 +38,20 @@ static outcome check_number(zurkeb_format f, uint32_t direction, const zurkeb_nu
 static outcome compare(zurkeb_format f, uint32_t direction, const zurkeb_number *x) {
     (void)direction;
     zurkeb_order_answer r = zurkeb_compare(f, x[0], x[1]);
-    return (outcome){r.refusal, {(uint32_t)r.order}};
+    return (outcome){.refusal = r.refusal, .fields = {(uint32_t)r.order}};
 }
 
 static outcome within_one_step(zurkeb_format f, uint32_t direction, const zurkeb_number *x) {
     (void)direction;
     zurkeb_check_answer r = zurkeb_within_one_step(f, x[0], x[1]);
     same("yes is 0 or 1", r.yes <= 1, 1);
-    return (outcome){r.refusal, {r.yes}};
+    return (outcome){.refusal = r.refusal, .fields = {r.yes}};
 }
 
 static outcome convert(zurkeb_format f, uint32_t direction, const zurkeb_number *x) {
     zurkeb_rounded_answer r = zurkeb_convert(f, direction, x[0]);
     outcome o = {.refusal = r.refusal};
-    put(o.fields, r.number);
+    put(&o, r.number);
     o.fields[4] = r.mark;
     return o;
 }
@@ -59,7 +59,7 @@ static outcome convert(zurkeb_format f, uint32_t direction, const zurkeb_number 
 static outcome quotient(zurkeb_format f, uint32_t direction, const zurkeb_number *x) {
     zurkeb_quotient_answer r = zurkeb_quotient(f, direction, x[0], x[1]);
     outcome o = {.refusal = r.refusal};
-    put(o.fields, r.number);
+    put(&o, r.number);
     o.fields[4] = r.mark;
     o.fields[5] = r.digits;
     return o;
@@ -68,9 +68,9 @@ static outcome quotient(zurkeb_format f, uint32_t direction, const zurkeb_number
 static outcome fast_two_sum(zurkeb_format f, uint32_t direction, const zurkeb_number *x) {
     zurkeb_triple_answer r = zurkeb_fast_two_sum(f, direction, direction, direction, x[0], x[1]);
     outcome o = {.refusal = r.refusal};
-    put(o.fields, r.x);
-    put(o.fields + 4, r.z);
-    put(o.fields + 8, r.y);
+    put(&o, r.x);
+    put(&o, r.z);
+    put(&o, r.y);
     return o;
 }
 
@@ -78,7 +78,7 @@ static outcome is_fast_two_sum(zurkeb_format f, uint32_t direction, const zurkeb
     (void)direction;
     zurkeb_check_answer r = zurkeb_is_fast_two_sum(f, x[0], x[1], x[2], x[3], x[4]);
     same("yes is 0 or 1", r.yes <= 1, 1);
-    return (outcome){r.refusal, {r.yes}};
+    return (outcome){.refusal = r.refusal, .fields = {r.yes}};
 }
 
 typedef struct call {
@@ -125,21 +125,23 @@ static outcome answer(const call *c, zurkeb_format f, uint32_t direction, const 
     if (c->of_one || c->of_one_directed) {
         zurkeb_number_answer r = c->of_one ? c->of_one(f, x[0]) : c->of_one_directed(f, direction, x[0]);
         o.refusal = r.refusal;
-        put(o.fields, r.number);
+        put(&o, r.number);
     } else {
         zurkeb_rounded_answer r = c->of_two(f, direction, x[0], x[1]);
         o.refusal = r.refusal;
-        put(o.fields, r.number);
+        put(&o, r.number);
         o.fields[4] = r.mark;
     }
     return o;
 }
 
+/* A refused answer's numbers are in no format, and its other fields zero. */
 static void refused(const call *c, zurkeb_format f, uint32_t direction, const zurkeb_number *x, uint32_t wanted) {
-    static const uint32_t zeros[12];
-    outcome o = answer(c, f, direction, x);
+    outcome o = answer(c, f, direction, x), none = {0};
+    while (none.numbers < o.numbers)
+        put(&none, no_number);
     same(c->name, o.refusal, wanted);
-    same(c->name, (uint64_t)memcmp(o.fields, zeros, sizeof zeros), 0);
+    same(c->name, (uint64_t)memcmp(o.fields, none.fields, sizeof none.fields), 0);
 }
 
 /* ---- numbers of a format */
@@ -163,19 +165,28 @@ static zurkeb_number member(zurkeb_format f) {
 }
 
 /* ---- comparisons */
-/* The operands are taken, and refused by 3 once one of them has a bad sign; 1 and 2 come before. */
-static void one_bad_sign(const call *c, zurkeb_format f, uint32_t direction, const zurkeb_number *members, uint32_t sign) {
+/* The operands are refused by 3 once this one stands at i; 1 and 2 come before. */
+static void one_outside(const call *c, zurkeb_format f, uint32_t direction, const zurkeb_number *members, int i, zurkeb_number outside) {
     zurkeb_format bad = f;
     bad.base = 257;
+    zurkeb_number x[MOST_OPERANDS];
+    memcpy(x, members, sizeof x);
+    x[i] = outside;
+    refused(c, f, direction, x, ZURKEB_NUMBER_NOT_IN_FORMAT);
+    refused(c, bad, direction, x, ZURKEB_FORMAT_NOT_ADMITTED);
+    if (c->directed)
+        refused(c, f, 5 + direction, x, ZURKEB_NO_SUCH_DIRECTION);
+}
+
+/* The operands are taken, and refused once one of them has a bad sign or is the number of a refused answer, which only a conversion takes. */
+static void one_bad_operand(const call *c, zurkeb_format f, uint32_t direction, const zurkeb_number *members, uint32_t sign) {
     same(c->name, answer(c, f, direction, members).refusal == ZURKEB_NUMBER_NOT_IN_FORMAT, 0);
     for (int i = 0; i < c->operands; i++) {
-        zurkeb_number x[MOST_OPERANDS];
-        memcpy(x, members, sizeof x);
-        x[i].negative = sign;
-        refused(c, f, direction, x, ZURKEB_NUMBER_NOT_IN_FORMAT);
-        refused(c, bad, direction, x, ZURKEB_FORMAT_NOT_ADMITTED);
-        if (c->directed)
-            refused(c, f, 5 + direction, x, ZURKEB_NO_SUCH_DIRECTION);
+        zurkeb_number signed_badly = members[i];
+        signed_badly.negative = sign;
+        one_outside(c, f, direction, members, i, signed_badly);
+        if (c->other != convert)
+            one_outside(c, f, direction, members, i, no_number);
     }
 }
 
@@ -194,7 +205,7 @@ static void each_call(zurkeb_format f, uint32_t sign) {
         members[i] = member(f);
     for (int k = 0; k < CALLS; k++) {
         uint32_t direction = random32() % 5;
-        one_bad_sign(&calls[k], f, direction, members, sign);
+        one_bad_operand(&calls[k], f, direction, members, sign);
         all_bad_signs(&calls[k], f, direction, members);
     }
 }
@@ -246,6 +257,9 @@ static void pattern(uint32_t n, uint32_t sign) {
     same("write_pattern", zurkeb_write_pattern(r.number), n);
     r.number.negative = sign;
     same("write_pattern", zurkeb_write_pattern(r.number), (uint64_t)ZURKEB_NUMBER_NOT_IN_FORMAT << 32);
+    same("write_pattern", zurkeb_write_pattern(no_number), (uint64_t)ZURKEB_NUMBER_NOT_IN_FORMAT << 32);
+    same("write_decimal32", zurkeb_write_decimal32(no_number), (uint64_t)ZURKEB_NUMBER_NOT_IN_FORMAT << 32);
+    same("write_binary64", zurkeb_write_binary64(no_number).refusal, ZURKEB_NUMBER_NOT_IN_FORMAT);
 }
 
 static void round_of(zurkeb_format f, uint32_t sign) {

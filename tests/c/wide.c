@@ -7,7 +7,7 @@
 #include <stdbool.h>
 #include <string.h>
 
-#include "compare.h"
+#include "answers.h"
 #include "quotient.h"
 #include "zurkeb.h"
 
@@ -17,12 +17,6 @@ typedef zurkeb_rounded_answer (*operation)(zurkeb_format, uint32_t, zurkeb_numbe
 enum { OPERATIONS = 4 };
 static const operation operations[OPERATIONS] = {zurkeb_sum, zurkeb_difference, zurkeb_product, rounded_quotient};
 static const char *const names[OPERATIONS] = {"sum", "difference", "product", "quotient"};
-
-static void same_number(const char *what, zurkeb_number ours, zurkeb_number wanted) {
-    same(what, ours.significand, wanted.significand);
-    same(what, (uint32_t)ours.exponent, (uint32_t)wanted.exponent);
-    same(what, ours.negative, wanted.negative);
-}
 
 /* ---- binary64 and the machine */
 static double of_pattern(uint64_t n) {
@@ -45,7 +39,7 @@ static void patterns(uint64_t pattern) {
     zurkeb_number_answer r = zurkeb_read_binary64(pattern);
     if (!is_finite(pattern)) {
         same("read_binary64", r.refusal, ZURKEB_NOT_FINITE);
-        same_number("read_binary64", r.number, (zurkeb_number){0});
+        same_number("read_binary64", r.number, no_number);
         return;
     }
     uint64_t fraction = pattern & 0xfffffffffffffu, field = pattern >> 52 & 2047;
@@ -162,7 +156,7 @@ static zurkeb_rounded_answer rounded(zurkeb_format f, uint32_t direction, exact 
     if (m == 0)
         e = f.emin;
     if (e > f.emax)
-        return (zurkeb_rounded_answer){.refusal = ZURKEB_TOO_LARGE};
+        return refusal_by(ZURKEB_TOO_LARGE);
     uint32_t side = next != x.negative ? ZURKEB_HIGH : ZURKEB_LOW;
     return (zurkeb_rounded_answer){0, inexact ? side : ZURKEB_EXACT, {(uint64_t)m, e, x.negative}};
 }
@@ -213,7 +207,7 @@ static zurkeb_number negated(zurkeb_number x) {
 
 static zurkeb_rounded_answer plain(int o, zurkeb_format f, uint32_t direction, zurkeb_number a, zurkeb_number b) {
     if (o == 3 && b.significand == 0)
-        return (zurkeb_rounded_answer){.refusal = ZURKEB_DIVISOR_ZERO};
+        return refusal_by(ZURKEB_DIVISOR_ZERO);
     return rounded(f, direction, o == 0 ? plain_sum(f, direction, a, b) : o == 1 ? plain_sum(f, direction, a, negated(b)) : o == 2 ? plain_product(a, b) : plain_quotient(f, a, b));
 }
 

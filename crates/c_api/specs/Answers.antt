@@ -1,4 +1,5 @@
--- What is given, as C sees it: the refusal's number, 0 for none, and the values, zero at a refusal. And a number as C hands it over.
+-- What is given, as C sees it: the refusal's number, 0 for none, and the values; at a refusal numbers in no format, and zero for the others.
+-- And a number as C hands it over.
 use Prim.Native.Nat.{ℕ, _*_, _-_, _^_, _<_}
 use mathlib.Core.Path.{_≡_}
 use mathlib.Core.Bool.{Bool, cond}
@@ -54,15 +55,20 @@ indexedOut (gives x) = 0
 indexedOut (refused number) = 0
 indexedOut (refusedAt number index) = 1
 
--- ---- numbers: C's sign is 0 or 1, and any other makes a number that is in no format
+-- ---- numbers: no number of an admitted format has this significand
+abbrev pub noSignificand : ℕ
+noSignificand = 2 ^ 64 - 1
+
+-- C's sign is 0 or 1, and any other makes a number that is in no format
 abbrev pub numberIn : CNumber → Number
-numberIn x = record { negative = eqb (x .negative) 1; significand = cond (leb (x .negative) 1) (x .significand) (2 ^ 64 - 1); exponent = x .exponent }
+numberIn x = record { negative = eqb (x .negative) 1; significand = cond (leb (x .negative) 1) (x .significand) noSignificand; exponent = x .exponent }
 
 abbrev pub numberFor : Number → CNumber
 numberFor x = record { negative = cond (x .negative) 1 0; significand = x .significand; exponent = x .exponent }
 
+-- what stands for the number of a refused answer
 abbrev pub noNumber : CNumber
-noNumber = record { negative = 0; significand = 0; exponent = pos 0 }
+noNumber = record { negative = 0; significand = noSignificand; exponent = pos 0 }
 
 abbrev pub numberOut : Given Number → NumberOut
 numberOut g = record { refusal = refusalOut g; number = valueOut numberFor noNumber g }

@@ -1,5 +1,5 @@
 // The engine's answers as C sees them, and its numbers as C hands them over. An answer is a struct whose first field is the refusal's
-// number, 0 for none, and whose other fields are zero at a refusal; a verdict or a pattern is a number.
+// number, 0 for none; at a refusal its numbers are in no format, and its other fields are zero. A verdict or a pattern is a number.
 use arithmetic::QuotientAnswer;
 use arithmetic::RoundedAnswer;
 use binary32_arithmetic::SliceAnswer;
@@ -125,6 +125,16 @@ pub struct StretchOut {
     pub index: u64,
 }
 
+// A significand of no admitted format, where base^digits is at most 2^63.
+const NO_SIGNIFICAND: Significand = 18446744073709551615;
+
+// What stands for the number of a refused answer: every call that is handed it refuses it by 3, but a conversion, which takes any number.
+const NO_NUMBER: CNumber = CNumber {
+    significand: NO_SIGNIFICAND,
+    exponent: 0,
+    negative: 0,
+};
+
 // The number that C means. A sign that is neither 0 nor 1 makes one that is in no format.
 pub fn number_in(x: CNumber) -> Number
     ensures { λ r. ⌜ r ≡ numberIn x ⌝ }
@@ -134,7 +144,7 @@ pub fn number_in(x: CNumber) -> Number
     let significand = if x.negative <= 1 {
         given
     } else {
-        18446744073709551615
+        NO_SIGNIFICAND
     };
     Number {
         negative: x.negative == 1,
@@ -166,17 +176,10 @@ pub fn number_out(answer: NumberAnswer) -> NumberOut
                 number: number,
             }
         }
-        NumberAnswer::Refused(why) => {
-            let none = CNumber {
-                significand: 0,
-                exponent: 0,
-                negative: 0,
-            };
-            NumberOut {
-                refusal: refusal_number(why),
-                number: none,
-            }
-        }
+        NumberAnswer::Refused(why) => NumberOut {
+            refusal: refusal_number(why),
+            number: NO_NUMBER,
+        },
     }
 }
 
@@ -204,18 +207,11 @@ pub fn rounded_out(answer: RoundedAnswer) -> RoundedOut
                 number: number,
             }
         }
-        RoundedAnswer::Refused(why) => {
-            let none = CNumber {
-                significand: 0,
-                exponent: 0,
-                negative: 0,
-            };
-            RoundedOut {
-                refusal: refusal_number(why),
-                mark: 0,
-                number: none,
-            }
-        }
+        RoundedAnswer::Refused(why) => RoundedOut {
+            refusal: refusal_number(why),
+            mark: 0,
+            number: NO_NUMBER,
+        },
     }
 }
 
@@ -234,19 +230,12 @@ pub fn quotient_out(answer: QuotientAnswer) -> QuotientOut
                 number: number,
             }
         }
-        QuotientAnswer::Refused(why) => {
-            let none = CNumber {
-                significand: 0,
-                exponent: 0,
-                negative: 0,
-            };
-            QuotientOut {
-                refusal: refusal_number(why),
-                mark: 0,
-                digits: 0,
-                number: none,
-            }
-        }
+        QuotientAnswer::Refused(why) => QuotientOut {
+            refusal: refusal_number(why),
+            mark: 0,
+            digits: 0,
+            number: NO_NUMBER,
+        },
     }
 }
 
@@ -268,19 +257,12 @@ pub fn triple_out(answer: StepsAnswer) -> TripleOut
                 y: y,
             }
         }
-        StepsAnswer::Refused(why) => {
-            let none = CNumber {
-                significand: 0,
-                exponent: 0,
-                negative: 0,
-            };
-            TripleOut {
-                refusal: refusal_number(why),
-                x: none,
-                z: none,
-                y: none,
-            }
-        }
+        StepsAnswer::Refused(why) => TripleOut {
+            refusal: refusal_number(why),
+            x: NO_NUMBER,
+            z: NO_NUMBER,
+            y: NO_NUMBER,
+        },
     }
 }
 
