@@ -6,16 +6,16 @@ use Rattle.vectors.proofs.main.Statement.{statement}
 use Rattle.vectors.proofs.main.Tie as tie
 
 abbrev Inv-loop : tie.InvT-loop
-Inv-loop block₀ tally₀ turns₀ t5 t6 block tally turns = (turns ≤ turns₀) × (length block ≡ (1024 * rowLength)) × (length t5 ≡ 4) × (length t6 ≡ 12)
+Inv-loop block₀ tally₀ turns₀ block tally turns = (turns ≤ turns₀) × (length block ≡ (1024 * rowLength))
 
 abbrev μ-loop : tie.MeasureT-loop
-μ-loop block₀ tally₀ turns₀ t5 t6 block tally turns = turns
+μ-loop block₀ tally₀ turns₀ block tally turns = turns
 
 pub main-spec : {M : Type 1} → statement M
 main-spec =
     tie.close
     (tie.spec
-    Inv-loop μ-loop (λ c. (search needs, length-replicate {A = ℕ} (1024 * rowLength) 0, search needs, search needs))
+    Inv-loop μ-loop (λ c. (search needs, length-replicate {A = ℕ} (1024 * rowLength) 0))
     (λ c. search needs) (λ c κs. search needs) (λ c. search needs) (λ c. search needs) (λ c κs. search needs) (λ c. search needs)
-    (λ c. search needs) (λ c. search needs) (λ c κs. search needs) (λ c. search needs) (λ c κs. search needs)
-    (λ c κs. search needs) (λ c. search needs) (λ c κs. search needs) (λ c. search needs))
+    (λ c. search needs) (λ c. search needs) (λ c κs. search needs) (λ c κs. search needs) (λ c. search needs) (λ c κs. search needs)
+    (λ c κs. search needs) (λ c. search needs) (λ c. search needs))

@@ -33,7 +33,8 @@ answer-input-spec =
     tie.close
     (tie.spec
     Inv-loop μ-loop (λ c κs. search needs) (λ c. (search needs, length-replicate {A = ℕ} 16384 0, length-replicate {A = ℕ} 737280 0))
-    (λ c. search needs) (λ c κs. search needs) (λ c. search needs) (λ c κs. search needs) (λ c. search needs) (λ c. search needs) (λ c. search needs)
+    (λ c. search needs) (λ c κs. search needs) (λ c κs. search needs) (λ c. search needs) (λ c. search needs) (λ c κs. search needs)
+    (λ c. search needs) (λ c. search needs) (λ c. search needs)
     answer-block-requires (λ c. block-within (c .before)) (λ c. sym (length-take-le _ _ (block-within (c .before .before)))) (λ c κs. search needs)
     (λ c. search needs) (λ c. search needs) (λ c. search needs) (λ c. search needs) (λ c. search needs) answer-end-requires
     (λ c. line-within (c .before)) (λ c. sym (length-take-le _ _ (line-within (c .before .before)))) (λ c κs. search needs) (λ c. search needs))
