@@ -1,98 +1,36 @@
 /* Sums of boundaries against plain C: the machine's float arithmetic step by step (fesetround), in direction 1 exact integers rounded, the
  * refusals and their order, and the bound itself in exact integers. Prints how many comparisons were made; stops with an error at the first difference. */
-#include <fenv.h>
 #include <stdbool.h>
 #include <string.h>
 
 #include "compare.h"
+#include "exact.h"
+#include "machine.h"
 #include "zurkeb.h"
 
 enum { MOST = 4096, KEPT = 0x5eed };
 
-static const int modes[5] = {FE_TONEAREST, -1, FE_TOWARDZERO, FE_UPWARD, FE_DOWNWARD};
-
 static uint32_t strips[MOST + 1], rests[MOST + 1], wanted[MOST + 1];
-
-static float of_pattern(uint32_t n) {
-    float x;
-    memcpy(&x, &n, sizeof x);
-    return x;
-}
-
-static uint32_t pattern_of(float x) {
-    uint32_t n;
-    memcpy(&n, &x, sizeof n);
-    return n;
-}
 
 static uint32_t size_of(uint32_t n) { return n & 0x7fffffffu; }
 
-/* ---- exact integers: multiples of 2^-149 times 2^47 in 32-bit words, two's complement; 4,096 numbers below 2^277 fit */
-enum { WORDS = 12 };
-typedef struct exact {
-    uint32_t words[WORDS];
-} exact;
-
-static void plus(exact *total, const exact *more) {
-    uint64_t carry = 0;
-    for (int i = 0; i < WORDS; i++) {
-        carry += (uint64_t)total->words[i] + more->words[i];
-        total->words[i] = (uint32_t)carry;
-        carry >>= 32;
-    }
-}
-
-static exact negated(exact x) {
-    exact one = {{1}};
-    for (int i = 0; i < WORDS; i++)
-        x.words[i] = ~x.words[i];
-    plus(&x, &one);
-    return x;
-}
-
-static bool is_negative(const exact *x) { return x->words[WORDS - 1] >> 31; }
-static exact absolute(exact x) { return is_negative(&x) ? negated(x) : x; }
-
-/* The value of a pattern times 2^shift, in units of 2^-149. */
-static exact value_of(uint32_t n, uint32_t shift) {
-    uint32_t field = n >> 23 & 255, place = (field == 0 ? 0 : field - 1) + shift;
-    uint64_t significand = (uint64_t)((n & 0x7fffff) + (field == 0 ? 0 : 0x800000)) << place % 32;
-    exact x = {{0}};
-    x.words[place / 32] = (uint32_t)significand;
-    x.words[place / 32 + 1] = (uint32_t)(significand >> 32);
-    return n >> 31 ? negated(x) : x;
-}
-
-static void add_value(exact *total, uint32_t n, uint32_t shift) {
-    exact x = value_of(n, shift);
-    plus(total, &x);
-}
-
-static void take_value(exact *total, uint32_t n, uint32_t shift) {
-    exact x = negated(value_of(n, shift));
-    plus(total, &x);
-}
-
 /* 2^47 times the distance of sum and rests from the strips, against the sum of |x| after each step. */
-static void bound(uint32_t sum, size_t length, uint32_t direction, const exact *sizes) {
-    exact off = {{0}}, zero = {{0}};
-    add_value(&off, sum, 47);
+static void bound(uint32_t sum, size_t length, uint32_t direction, exact sizes) {
+    exact off = exact_scaled(sum, 47);
     for (size_t i = 0; i + 1 < length; i++)
-        add_value(&off, rests[i], 47);
+        off = exact_sum(off, exact_scaled(rests[i], 47));
     for (size_t i = 0; i < length; i++)
-        take_value(&off, strips[i], 47);
-    exact left = negated(absolute(off));
-    plus(&left, sizes);
-    same("within the bound", is_negative(&left), 0);
+        off = exact_difference(off, exact_scaled(strips[i], 47));
+    same("within the bound", exact_compare(exact_size(off), sizes) > 0, 0);
     if (direction < 2)
-        same("exact", (uint64_t)memcmp(&off, &zero, sizeof off), 0);
+        same("exact", exact_sign(off) != 0, 0);
 }
 
 /* ---- direction 1, which the machine has not: the exact sum of two patterns rounded to nearest, ties away from zero */
-static bool bit_of(const exact *x, int i) { return x->words[i / 32] >> i % 32 & 1; }
+static bool bit_of(const exact *x, int i) { return x->words[i / 64] >> i % 64 & 1; }
 
 static int bits_of(const exact *x) {
-    int bits = 32 * WORDS;
+    int bits = 64 * EXACT_WORDS;
     while (bits > 0 && !bit_of(x, bits - 1))
         bits--;
     return bits;
@@ -100,13 +38,13 @@ static int bits_of(const exact *x) {
 
 /* The pattern of a value in units of 2^-149; an infinity where it is too large. */
 static uint32_t nearest_away(exact x) {
-    uint32_t sign = is_negative(&x) ? 0x80000000u : 0, significand = 0;
-    x = absolute(x);
+    uint32_t sign = exact_sign(x) < 0 ? 0x80000000u : 0, significand = 0;
+    x = exact_size(x);
     int place = bits_of(&x) <= 24 ? 0 : bits_of(&x) - 24;
     if (place > 0) {
         exact half = {{0}};
-        half.words[(place - 1) / 32] = 1u << (place - 1) % 32;
-        plus(&x, &half);
+        half.words[(place - 1) / 64] = (uint64_t)1 << (place - 1) % 64;
+        x = exact_sum(x, half);
         place = bits_of(&x) - 24;
     }
     for (int i = 23; i >= 0; i--)
@@ -117,10 +55,8 @@ static uint32_t nearest_away(exact x) {
 }
 
 static uint32_t add_away(uint32_t a, uint32_t b) {
-    exact x = {{0}};
-    add_value(&x, a, 0);
-    add_value(&x, b, 0);
-    if (bits_of(&x) == 0)
+    exact x = exact_sum(exact_value(a), exact_value(b));
+    if (exact_sign(x) == 0)
         return a == b ? a : 0; /* two zeros of one sign keep it, else plus */
     return nearest_away(x);
 }
@@ -135,13 +71,13 @@ typedef struct model {
 static uint32_t add(uint32_t a, uint32_t b, uint32_t direction) {
     if (modes[direction] < 0)
         return add_away(a, b);
-    volatile float left = of_pattern(a), right = of_pattern(b), sum;
+    volatile float left = float_of(a), right = float_of(b), sum;
     fesetround(modes[direction]);
     feclearexcept(FE_ALL_EXCEPT);
     sum = left + right;
     bool too_large = fetestexcept(FE_OVERFLOW);
     fesetround(FE_TONEAREST);
-    return too_large ? 0x7f800000u : pattern_of(sum);
+    return too_large ? 0x7f800000u : pattern_of_float(sum);
 }
 
 static uint32_t minus(uint32_t n) { return n ^ 0x80000000u; }
@@ -159,7 +95,7 @@ static void plain_sum(model *m, size_t length, uint32_t direction) {
             return;
         }
         wanted[i - 1] = add(b, minus(add(x, minus(a), direction)), direction);
-        add_value(&m->sizes, size_of(x), 0);
+        m->sizes = exact_sum(m->sizes, exact_value(size_of(x)));
     }
     m->sum = x;
 }
@@ -198,7 +134,7 @@ static void against_plain(size_t length) {
         same("index", r.index, 0);
         for (size_t i = 0; i + 1 < length; i++)
             same("rest", rests[i], wanted[i]);
-        bound(r.sum, length, d, &m.sizes);
+        bound(r.sum, length, d, m.sizes);
     }
 }
 

@@ -2,11 +2,10 @@
  * bases and digits, every direction, marks, signs of zero, and the refusals in their order; whole numbers against the fraction, against
  * this machine's own conversions and, where SOFTFLOAT names its folder, against Berkeley SoftFloat's. An argument is the number of random
  * rounds. */
-#include <fenv.h>
 #include <stdbool.h>
-#include <string.h>
 
 #include "compare.h"
+#include "machine.h"
 #include "members.h"
 #include "rounding.h"
 #include "zurkeb.h"
@@ -123,7 +122,6 @@ static void same_double(const char *what, uint32_t direction, zurkeb_number x, u
 }
 
 static void machine(int64_t n) {
-    static const int modes[5] = {FE_TONEAREST, -1, FE_TOWARDZERO, FE_UPWARD, FE_DOWNWARD};
     zurkeb_number x = whole(n < 0 ? -(uint64_t)n : (uint64_t)n, n < 0);
     for (uint32_t direction = 0; direction < 5; direction++) {
         if (modes[direction] < 0)
@@ -137,14 +135,8 @@ static void machine(int64_t n) {
         volatile double twice = (double)operand;
         bool inexact_twice = fetestexcept(FE_INEXACT) != 0;
         fesetround(FE_TONEAREST);
-        float kept = single;
-        double kept_twice = twice;
-        uint32_t pattern;
-        uint64_t pattern_twice;
-        memcpy(&pattern, &kept, sizeof pattern);
-        memcpy(&pattern_twice, &kept_twice, sizeof pattern_twice);
-        same_float("machine, binary32", direction, x, pattern, inexact);
-        same_double("machine, binary64", direction, x, pattern_twice, inexact_twice);
+        same_float("machine, binary32", direction, x, pattern_of_float(single), inexact);
+        same_double("machine, binary64", direction, x, pattern_of_double(twice), inexact_twice);
     }
 }
 
@@ -161,7 +153,7 @@ static void softfloat_double(uint32_t direction, zurkeb_number x, float64_t want
 
 /* The word as ui64, i64, ui32 and i32, to f32 and f64. */
 static void softfloat(uint64_t word) {
-    static const uint_fast8_t modes[5] = {softfloat_round_near_even, softfloat_round_near_maxMag, softfloat_round_minMag,
+    static const uint_fast8_t its_modes[5] = {softfloat_round_near_even, softfloat_round_near_maxMag, softfloat_round_minMag,
                                           softfloat_round_max, softfloat_round_min};
     int64_t n = (int64_t)word;
     uint32_t half = (uint32_t)word;
@@ -170,7 +162,7 @@ static void softfloat(uint64_t word) {
     zurkeb_number signed_h = whole(h < 0 ? (uint64_t) - (int64_t)h : (uint64_t)h, h < 0);
     softfloat_exceptionFlags = 0;
     for (uint32_t direction = 0; direction < 5; direction++) {
-        softfloat_roundingMode = modes[direction];
+        softfloat_roundingMode = its_modes[direction];
         softfloat_single(direction, whole(word, false), ui64_to_f32(word));
         softfloat_double(direction, whole(word, false), ui64_to_f64(word));
         softfloat_single(direction, signed_n, i64_to_f32(n));

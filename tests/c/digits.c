@@ -4,6 +4,7 @@
 #include <stdbool.h>
 
 #include "answers.h"
+#include "members.h"
 #include "zurkeb.h"
 
 static const zurkeb_format formats[] = {
@@ -11,10 +12,6 @@ static const zurkeb_format formats[] = {
     {10, 16, -8, 8},    {10, 18, -398, 369}, {7, 5, 2, 12},    {16, 15, -20, 9}, {100, 9, -3, 30}, {256, 7, -10, 10}, {256, 1, -2, 2},
 };
 enum { FORMATS = sizeof formats / sizeof *formats };
-
-static uint64_t power(uint32_t base, uint32_t k) {
-    return k == 0 ? 1 : base * power(base, k - 1);
-}
 
 /* ---- the long division */
 typedef struct division {
@@ -24,7 +21,7 @@ typedef struct division {
 
 /* Brings the significand to all digits of the format. */
 static zurkeb_number brought(zurkeb_format f, zurkeb_number x) {
-    for (; x.significand < power(f.base, f.digits - 1); x.exponent--)
+    for (; x.significand < power_of(f.base, f.digits - 1); x.exponent--)
         x.significand *= f.base;
     return x;
 }
@@ -50,14 +47,14 @@ static division divided(zurkeb_format f, zurkeb_number a, zurkeb_number b) {
 
 /* ---- random numbers of a format: with all digits, with few, small ones, zeros */
 static zurkeb_number member(zurkeb_format f) {
-    uint64_t least = power(f.base, f.digits - 1);
+    uint64_t least = power_of(f.base, f.digits - 1);
     uint32_t kind = random32() % 16, few = random32() % f.digits;
     if (kind == 0)
         return (zurkeb_number){random64() % least, f.emin, random32() & 1};
     zurkeb_number x = {least + random64() % (least * (f.base - 1)), f.emin + (int32_t)(random32() % (uint32_t)(f.emax - f.emin + 1)),
                        random32() & 1};
     if (kind < 9)
-        x.significand -= x.significand % power(f.base, f.digits - 1 - few);
+        x.significand -= x.significand % power_of(f.base, f.digits - 1 - few);
     return x;
 }
 
@@ -80,7 +77,7 @@ static void near_emin(zurkeb_format f) {
     zurkeb_number a = member(f), b = member(f);
     a.exponent = f.emin;
     quotient(f, a, b);
-    if (b.significand >= power(f.base, f.digits - 1)) {
+    if (b.significand >= power_of(f.base, f.digits - 1)) {
         int32_t wanted = (int32_t)(random32() % (f.digits + 3)) - 1;
         b.exponent = wanted > f.emax ? f.emax : wanted < f.emin ? f.emin : wanted;
     }

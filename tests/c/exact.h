@@ -1,12 +1,12 @@
-/* Exact values of finite binary32 patterns for the C tests: whole multiples of 2^-149 as signed numbers of 320 bits, in five words with
- * the lowest first, negative ones in two's complement. Sums of some thousand values fit. */
+/* Exact values of finite binary32 patterns for the C tests: whole multiples of 2^-149 as signed numbers of 384 bits, in six words with
+ * the lowest first, negative ones in two's complement. Sums of some thousand values fit, 2^47 times as large too. */
 #ifndef EXACT_H
 #define EXACT_H
 
 #include <stdbool.h>
 #include <stdint.h>
 
-enum { EXACT_WORDS = 5 };
+enum { EXACT_WORDS = 6 };
 
 typedef struct exact {
     uint64_t words[EXACT_WORDS];
@@ -56,16 +56,24 @@ static inline int exact_compare(exact a, exact b) {
     return exact_sign(exact_difference(a, b));
 }
 
-/* The value of a finite pattern: the fraction at place 0, or with a leading bit at the place of the exponent field less 1. */
-static inline exact exact_value(uint32_t pattern) {
+static inline exact exact_size(exact a) {
+    return exact_sign(a) < 0 ? exact_negated(a) : a;
+}
+
+/* 2^scale times the value of a finite pattern: the fraction at place 0, or with a leading bit at the place of the exponent field less 1. */
+static inline exact exact_scaled(uint32_t pattern, unsigned scale) {
     uint32_t field = pattern >> 23 & 255, fraction = pattern & 0x7fffffu;
     uint64_t significand = field == 0 ? fraction : fraction | 0x800000u;
-    unsigned place = field == 0 ? 0 : field - 1, word = place / 64, shift = place % 64;
+    unsigned place = (field == 0 ? 0 : field - 1) + scale, word = place / 64, shift = place % 64;
     exact value = {{0}};
     value.words[word] = significand << shift;
     if (shift > 40)
         value.words[word + 1] = significand >> (64 - shift);
     return pattern >> 31 ? exact_negated(value) : value;
+}
+
+static inline exact exact_value(uint32_t pattern) {
+    return exact_scaled(pattern, 0);
 }
 
 #endif

@@ -3,7 +3,7 @@
 #include <stdbool.h>
 
 #include "compare.h"
-#include "quotient.h"
+#include "operations.h"
 #include "rounding.h"
 #include "zurkeb.h"
 

@@ -1,24 +1,11 @@
 /* The C interface against this machine's binary32 arithmetic (fesetround, nextafterf) and, call by call, each refusal. Prints how
  * many comparisons were made; stops with an error at the first difference. */
-#include <fenv.h>
 #include <math.h>
 #include <stdbool.h>
-#include <string.h>
 
 #include "compare.h"
+#include "machine.h"
 #include "zurkeb.h"
-
-static float of_pattern(uint32_t n) {
-    float x;
-    memcpy(&x, &n, sizeof x);
-    return x;
-}
-
-static uint32_t pattern_of(float x) {
-    uint32_t n;
-    memcpy(&n, &x, sizeof n);
-    return n;
-}
 
 static void fail(const char *what, uint32_t a, uint32_t b, uint32_t direction, uint64_t ours, uint64_t theirs) {
     printf("%s of %08" PRIx32 " and %08" PRIx32 " in direction %" PRIu32 ": ours %016" PRIx64 ", the machine's %016" PRIx64 "\n", what, a, b,
@@ -28,10 +15,9 @@ static void fail(const char *what, uint32_t a, uint32_t b, uint32_t direction, u
 
 /* Where the machine overflows, document 01 refuses by 5, also in a direction in which the machine gives the greatest number. */
 static uint64_t expected(float result, bool overflow) {
-    return overflow ? (uint64_t)ZURKEB_TOO_LARGE << 32 : pattern_of(result);
+    return overflow ? (uint64_t)ZURKEB_TOO_LARGE << 32 : pattern_of_float(result);
 }
 
-static const int modes[5] = {FE_TONEAREST, -1, FE_TOWARDZERO, FE_UPWARD, FE_DOWNWARD};
 
 static void operations(uint32_t a, uint32_t b) {
     uint32_t finite = (a >> 23 & 255) != 255 && (b >> 23 & 255) != 255;
@@ -55,7 +41,7 @@ static void operations(uint32_t a, uint32_t b) {
                     fail(names[op], a, b, d, ours, (uint64_t)ZURKEB_DIVISOR_ZERO << 32);
                 continue;
             }
-            volatile float x = of_pattern(a), y = of_pattern(b), r;
+            volatile float x = float_of(a), y = float_of(b), r;
             feclearexcept(FE_ALL_EXCEPT);
             fesetround(modes[d]);
             r = op == 0 ? x + y : op == 1 ? x - y : op == 2 ? x * y : x / y;
@@ -90,14 +76,14 @@ static void neighbours(uint32_t a) {
         return;
     routes(f, x.number);
     zurkeb_number_answer up = zurkeb_successor(f, x.number), down = zurkeb_predecessor(f, x.number);
-    float u = nextafterf(of_pattern(a), INFINITY), l = nextafterf(of_pattern(a), -INFINITY);
+    float u = nextafterf(float_of(a), INFINITY), l = nextafterf(float_of(a), -INFINITY);
     uint64_t ours = up.refusal ? (uint64_t)up.refusal << 32 : zurkeb_write_pattern(up.number);
-    uint64_t theirs = isinf(u) ? (uint64_t)ZURKEB_TOO_LARGE << 32 : pattern_of(u);
+    uint64_t theirs = isinf(u) ? (uint64_t)ZURKEB_TOO_LARGE << 32 : pattern_of_float(u);
     comparisons += 2;
     if (ours != theirs)
         fail("successor", a, 0, 0, ours, theirs);
     ours = down.refusal ? (uint64_t)down.refusal << 32 : zurkeb_write_pattern(down.number);
-    theirs = isinf(l) ? (uint64_t)ZURKEB_TOO_LARGE << 32 : pattern_of(l);
+    theirs = isinf(l) ? (uint64_t)ZURKEB_TOO_LARGE << 32 : pattern_of_float(l);
     if (ours != theirs)
         fail("predecessor", a, 0, 0, ours, theirs);
 }

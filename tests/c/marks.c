@@ -1,31 +1,20 @@
 /* Marks: against the machine's inexact flag on binary32 patterns, in the directions that it has; against the exact result in 128-bit
  * integers, multiplied out, in formats of several bases; and the slice sum's count of entries that are not exact. An argument is the
  * number of random rounds. */
-#include <fenv.h>
 #include <stdbool.h>
 #include <string.h>
 
 #include "compare.h"
 #include "exact.h"
-#include "quotient.h"
+#include "machine.h"
+#include "members.h"
+#include "operations.h"
 #include "zurkeb.h"
 
 typedef __int128 wide;
-typedef zurkeb_rounded_answer (*operation)(zurkeb_format, uint32_t, zurkeb_number, zurkeb_number);
-
-enum { OPERATIONS = 4 };
-static const operation operations[OPERATIONS] = {zurkeb_sum, zurkeb_difference, zurkeb_product, rounded_quotient};
-static const char *const names[OPERATIONS] = {"sum", "difference", "product", "quotient"};
 
 /* ---- the machine */
-static float of_pattern(uint32_t n) {
-    float x;
-    memcpy(&x, &n, sizeof x);
-    return x;
-}
-
 static void flags(uint32_t a, uint32_t b) {
-    static const int modes[5] = {FE_TONEAREST, -1, FE_TOWARDZERO, FE_UPWARD, FE_DOWNWARD};
     static const zurkeb_format binary32 = {2, 24, -149, 104};
     if (!is_finite_pattern(a) || !is_finite_pattern(b))
         return;
@@ -33,7 +22,7 @@ static void flags(uint32_t a, uint32_t b) {
     for (uint32_t d = 0; d < 5; d++) {
         for (int o = 0; o < OPERATIONS && modes[d] >= 0; o++) {
             zurkeb_rounded_answer r = operations[o](binary32, d, x, y);
-            volatile float v = of_pattern(a), w = of_pattern(b), kept;
+            volatile float v = float_of(a), w = float_of(b), kept;
             feclearexcept(FE_ALL_EXCEPT);
             fesetround(modes[d]);
             kept = o == 0 ? v + w : o == 1 ? v - w : o == 2 ? v * w : v / w;
@@ -49,19 +38,13 @@ static void flags(uint32_t a, uint32_t b) {
 static const zurkeb_format formats[] = {{2, 12, -9, 9}, {2, 1, -9, 9}, {3, 9, -6, 6}, {10, 3, -4, 4}, {10, 7, -3, 3}, {16, 5, -4, 4}, {256, 3, -2, 1}, {7, 4, 0, 5}};
 enum { FORMATS = sizeof formats / sizeof *formats };
 
-static wide raised(wide v, uint32_t base, int32_t count) {
-    while (count-- > 0)
-        v *= base;
-    return v;
-}
-
 static wide value(zurkeb_format f, zurkeb_number x) {
-    wide n = raised(x.significand, f.base, x.exponent - f.emin);
+    wide n = (wide)x.significand * power_of(f.base, (uint32_t)(x.exponent - f.emin));
     return x.negative ? -n : n;
 }
 
 static zurkeb_number member(zurkeb_format f) {
-    wide least = raised(1, f.base, (int32_t)f.digits - 1);
+    wide least = power_of(f.base, f.digits - 1);
     zurkeb_number x = {least + random32() % (least * (f.base - 1)), f.emin + (int32_t)(random32() % (uint32_t)(f.emax - f.emin + 1)),
                        random32() & 1};
     if (random32() % 4 == 0) /* few digits, so that results are often exact */
@@ -83,7 +66,7 @@ static void multiplied(const char *what, zurkeb_format f, zurkeb_rounded_answer 
 
 static void exact_results(zurkeb_format f) {
     zurkeb_number a = member(f), b = member(f);
-    wide v = value(f, a), w = value(f, b), one = raised(1, f.base, -f.emin);
+    wide v = value(f, a), w = value(f, b), one = power_of(f.base, (uint32_t)-f.emin);
     int32_t n = (int32_t)(random32() >> random32() % 32) * (random32() & 1 ? 1 : -1);
     uint32_t m = 1 + (random32() >> (1 + random32() % 31));
     for (uint32_t d = 0; d < 5; d++) {

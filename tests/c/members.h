@@ -1,15 +1,19 @@
-/* Random numbers of any admitted format, for the C tests. */
+/* Powers of a base, and random numbers of any admitted format, for the C tests. */
 #ifndef MEMBERS_H
 #define MEMBERS_H
 
 #include "compare.h"
 #include "zurkeb.h"
 
-/* base^k, which is at most 2^63. */
+/* base^k, or 0 above 2^63. */
 static inline uint64_t power_of(uint32_t base, uint32_t k) {
+    const uint64_t most = ((uint64_t)1 << 63) / base;
     uint64_t result = 1;
-    while (k-- > 0)
+    while (k-- > 0) {
+        if (result > most)
+            return 0;
         result *= base;
+    }
     return result;
 }
 

@@ -3,9 +3,9 @@
  * number of random rounds. */
 #include <math.h>
 #include <stdbool.h>
-#include <string.h>
 
 #include "compare.h"
+#include "machine.h"
 #include "members.h"
 #include "zurkeb.h"
 
@@ -98,14 +98,8 @@ static void random_pair(zurkeb_format f) {
 }
 
 /* ---- binary32 and the machine */
-static float of_pattern(uint32_t n) {
-    float x;
-    memcpy(&x, &n, sizeof x);
-    return x;
-}
-
 static void machine(uint32_t a, uint32_t b) {
-    float x = of_pattern(a), y = of_pattern(b);
+    float x = float_of(a), y = float_of(b);
     if (!isfinite(x) || !isfinite(y))
         return;
     bool wanted = x == y || nextafterf(x, INFINITY) == y || nextafterf(x, -INFINITY) == y;

@@ -5,23 +5,13 @@
 #include <stdbool.h>
 
 #include "answers.h"
+#include "members.h"
 #include "zurkeb.h"
 
 enum { DIRECTIONS = 5, LIMIT = 1200 };
 
 static const uint32_t bases[] = {2, 3, 5, 7, 10, 16, 36, 100, 255, 256};
 enum { BASES = sizeof bases / sizeof *bases };
-
-/* base^p, the bound of the significands, or 0 above 2^63. */
-static uint64_t power(uint32_t base, uint32_t p) {
-    uint64_t result = 1;
-    while (p-- > 0) {
-        if (result > ((uint64_t)1 << 63) / base)
-            return 0;
-        result *= base;
-    }
-    return result;
-}
 
 static bool same_record(zurkeb_number a, zurkeb_number b) {
     return a.significand == b.significand && a.exponent == b.exponent && a.negative == b.negative;
@@ -38,18 +28,18 @@ static zurkeb_number first_place(zurkeb_format f, zurkeb_number x) {
 /* base^e with as many digits as there is room for above emin. */
 static zurkeb_number last_place(zurkeb_format f, zurkeb_number x) {
     uint32_t room = (uint32_t)(x.exponent - f.emin), digits = room < f.digits - 1 ? room : f.digits - 1;
-    return (zurkeb_number){power(f.base, digits), x.exponent - (int32_t)digits, 0};
+    return (zurkeb_number){power_of(f.base, digits), x.exponent - (int32_t)digits, 0};
 }
 
 /* ---- the premises */
 static bool is_inner(zurkeb_format f, zurkeb_number x) {
-    return x.significand != 0 && !(x.significand == power(f.base, f.digits) - 1 && x.exponent == f.emax);
+    return x.significand != 0 && !(x.significand == power_of(f.base, f.digits) - 1 && x.exponent == f.emax);
 }
 
 /* base^(p - 1) is in the format, and |x| times it is less than the greatest number. */
 static bool is_scalable(zurkeb_format f, zurkeb_number x) {
     int32_t lead = (int32_t)f.digits - 1, exponent = x.exponent + lead;
-    uint64_t top = power(f.base, f.digits), least = top / f.base, significand = x.significand;
+    uint64_t top = power_of(f.base, f.digits), least = top / f.base, significand = x.significand;
     if (lead < f.emin || f.emax < 0 || significand == 0)
         return false;
     for (; significand < least; significand *= f.base)
@@ -88,7 +78,7 @@ static void refused(zurkeb_format f, uint32_t direction, zurkeb_number x, uint32
 
 static void refusals(zurkeb_format f) {
     zurkeb_format bad = f;
-    zurkeb_number zero = {0, f.emin, 0}, outside = {power(f.base, f.digits), f.emin, 0};
+    zurkeb_number zero = {0, f.emin, 0}, outside = {power_of(f.base, f.digits), f.emin, 0};
     bad.base = 257;
     refused(bad, 5, outside, ZURKEB_FORMAT_NOT_ADMITTED);
     refused(bad, 0, zero, ZURKEB_FORMAT_NOT_ADMITTED);
@@ -102,7 +92,7 @@ static void refusals(zurkeb_format f) {
 
 /* ---- numbers of a format */
 static void at_exponent(zurkeb_format f, int32_t exponent) {
-    uint64_t top = power(f.base, f.digits), least = top / f.base;
+    uint64_t top = power_of(f.base, f.digits), least = top / f.base;
     if (exponent < f.emin || exponent > f.emax)
         return;
     const uint64_t significands[] = {least, least + 1, top / 2, top - 2, top - 1};
@@ -113,7 +103,7 @@ static void at_exponent(zurkeb_format f, int32_t exponent) {
 }
 
 static void of_format(zurkeb_format f, uint64_t rounds) {
-    uint64_t top = power(f.base, f.digits), least = top / f.base;
+    uint64_t top = power_of(f.base, f.digits), least = top / f.base;
     int32_t p = (int32_t)f.digits, highest = f.emax - p + 1; /* where |x| base^(p - 1) comes to the greatest number */
     const int32_t exponents[] = {f.emin, f.emin + 1, highest - 1, highest, highest + 1, f.emax - 1, f.emax, 0, 1 - p};
     same("check_format", zurkeb_check_format(f), 0);
@@ -148,7 +138,7 @@ static void with_digits(uint32_t base, uint32_t digits, uint64_t rounds) {
 int main(int count, char **arguments) {
     uint64_t rounds = rounds_of(count, arguments, 100000) / 5000; /* in each of many formats */
     for (int i = 0; i < BASES; i++) {
-        for (uint32_t digits = 1; digits <= 63 && power(bases[i], digits) != 0; digits++)
+        for (uint32_t digits = 1; digits <= 63 && power_of(bases[i], digits) != 0; digits++)
             with_digits(bases[i], digits, rounds);
     }
     printf("premise held %" PRIu64 ", failed %" PRIu64 "; ", held, failed);

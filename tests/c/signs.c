@@ -4,6 +4,7 @@
 #include <string.h>
 
 #include "answers.h"
+#include "members.h"
 #include "zurkeb.h"
 
 static const zurkeb_format formats[] = {
@@ -144,26 +145,6 @@ static void refused(const call *c, zurkeb_format f, uint32_t direction, const zu
     same(c->name, (uint64_t)memcmp(o.fields, none.fields, sizeof none.fields), 0);
 }
 
-/* ---- numbers of a format */
-static uint32_t power(uint32_t base, uint32_t k) {
-    uint32_t result = 1;
-    while (k-- > 0)
-        result *= base;
-    return result;
-}
-
-/* Zero, the greatest number, one at the lowest exponent or any other. */
-static zurkeb_number member(zurkeb_format f) {
-    uint32_t top = power(f.base, f.digits), full = top / f.base, kind = random32() % 8, sign = random32() & 1;
-    if (kind == 0)
-        return (zurkeb_number){0, f.emin, 0};
-    if (kind == 1)
-        return (zurkeb_number){top - 1, f.emax, sign};
-    if (kind == 2)
-        return (zurkeb_number){1 + random32() % (top - 1), f.emin, sign};
-    return (zurkeb_number){full + random32() % (top - full), f.emin + (int32_t)(random32() % (uint32_t)(f.emax - f.emin + 1)), sign};
-}
-
 /* ---- comparisons */
 /* The operands are refused by 3 once this one stands at i; 1 and 2 come before. */
 static void one_outside(const call *c, zurkeb_format f, uint32_t direction, const zurkeb_number *members, int i, zurkeb_number outside) {
@@ -202,7 +183,7 @@ static void all_bad_signs(const call *c, zurkeb_format f, uint32_t direction, co
 static void each_call(zurkeb_format f, uint32_t sign) {
     zurkeb_number members[MOST_OPERANDS];
     for (int i = 0; i < MOST_OPERANDS; i++)
-        members[i] = member(f);
+        members[i] = random_member(f);
     for (int k = 0; k < CALLS; k++) {
         uint32_t direction = random32() % 5;
         one_bad_operand(&calls[k], f, direction, members, sign);
@@ -212,7 +193,7 @@ static void each_call(zurkeb_format f, uint32_t sign) {
 
 /* What signs 0 and 1 mean: the value's sign. */
 static void good_signs(zurkeb_format f) {
-    zurkeb_number a = member(f), b = member(f);
+    zurkeb_number a = random_member(f), b = random_member(f);
     zurkeb_number minus = zurkeb_negate(f, a).number, size = zurkeb_magnitude(f, a).number;
     same("negate", minus.negative, !a.negative);
     same("negate", minus.significand == a.significand && minus.exponent == a.exponent, 1);
@@ -227,7 +208,7 @@ static void good_signs(zurkeb_format f) {
 
 /* A triple that passes its check, and each of its five numbers with a bad sign. */
 static void bad_triple(zurkeb_format f, uint32_t sign) {
-    zurkeb_number a = member(f), b = member(f);
+    zurkeb_number a = random_member(f), b = random_member(f);
     if (zurkeb_compare(f, zurkeb_magnitude(f, a).number, zurkeb_magnitude(f, b).number).order < 0) {
         zurkeb_number smaller = a;
         a = b;

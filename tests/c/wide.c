@@ -2,35 +2,16 @@
  * quotient, neighbours), its patterns against their parts; formats of 56 to 63 bits in bases 2, 3, 10 and 256, in all five directions,
  * against a plain computation in 128-bit integers, with places, neighbours, order and the three-step sum. An argument is the number of
  * random rounds. */
-#include <fenv.h>
 #include <math.h>
 #include <stdbool.h>
-#include <string.h>
 
 #include "answers.h"
-#include "quotient.h"
+#include "machine.h"
+#include "operations.h"
+#include "rounding.h"
 #include "zurkeb.h"
 
-typedef unsigned __int128 wide;
-typedef zurkeb_rounded_answer (*operation)(zurkeb_format, uint32_t, zurkeb_number, zurkeb_number);
-
-enum { OPERATIONS = 4 };
-static const operation operations[OPERATIONS] = {zurkeb_sum, zurkeb_difference, zurkeb_product, rounded_quotient};
-static const char *const names[OPERATIONS] = {"sum", "difference", "product", "quotient"};
-
 /* ---- binary64 and the machine */
-static double of_pattern(uint64_t n) {
-    double x;
-    memcpy(&x, &n, sizeof x);
-    return x;
-}
-
-static uint64_t pattern_of(double x) {
-    uint64_t n;
-    memcpy(&n, &x, sizeof n);
-    return n;
-}
-
 static bool is_finite(uint64_t pattern) {
     return (pattern >> 52 & 2047) != 2047;
 }
@@ -55,22 +36,21 @@ static void patterns(uint64_t pattern) {
 static void written(const char *what, uint32_t refusal, zurkeb_number x, double wanted, bool none) {
     same(what, refusal, none ? ZURKEB_TOO_LARGE : 0);
     if (!none)
-        same(what, zurkeb_write_binary64(x).pattern, pattern_of(wanted));
+        same(what, zurkeb_write_binary64(x).pattern, pattern_of_double(wanted));
 }
 
 static void machine(zurkeb_format f, uint64_t a, uint64_t b) {
-    static const int modes[5] = {FE_TONEAREST, -1, FE_TOWARDZERO, FE_UPWARD, FE_DOWNWARD};
     if (!is_finite(a) || !is_finite(b))
         return;
     zurkeb_number x = zurkeb_read_binary64(a).number, y = zurkeb_read_binary64(b).number;
     for (uint32_t d = 0; d < 5; d++) {
         for (int o = 0; o < OPERATIONS && modes[d] >= 0; o++) {
             zurkeb_rounded_answer r = operations[o](f, d, x, y);
-            if (o == 3 && b << 1 == 0) {
+            if (o == QUOTIENT && b << 1 == 0) {
                 same(names[o], r.refusal, ZURKEB_DIVISOR_ZERO);
                 continue;
             }
-            volatile double v = of_pattern(a), w = of_pattern(b), kept;
+            volatile double v = double_of(a), w = double_of(b), kept;
             feclearexcept(FE_ALL_EXCEPT);
             fesetround(modes[d]);
             kept = o == 0 ? v + w : o == 1 ? v - w : o == 2 ? v * w : v / w;
@@ -80,11 +60,11 @@ static void machine(zurkeb_format f, uint64_t a, uint64_t b) {
             same("inexact", r.mark != ZURKEB_EXACT, !overflow && inexact);
         }
     }
-    double up = nextafter(of_pattern(a), INFINITY), down = nextafter(of_pattern(a), -INFINITY);
+    double up = nextafter(double_of(a), INFINITY), down = nextafter(double_of(a), -INFINITY);
     zurkeb_number_answer after = zurkeb_successor(f, x), before = zurkeb_predecessor(f, x);
     written("successor", after.refusal, after.number, up, isinf(up));
     written("predecessor", before.refusal, before.number, down, isinf(down));
-    double v = of_pattern(a), w = of_pattern(b);
+    double v = double_of(a), w = double_of(b);
     same("compare", (uint32_t)zurkeb_compare(f, x, y).order, (uint32_t)((v > w) - (v < w)));
 }
 
@@ -95,7 +75,8 @@ typedef struct exact {
     int32_t exponent;
 } exact;
 
-static wide raised(wide v, uint32_t base, int32_t count) {
+/* v * base^count, which fits. */
+static wide times_power(wide v, uint32_t base, int32_t count) {
     while (count-- > 0)
         v *= base;
     return v;
@@ -108,57 +89,18 @@ static int32_t digits_of(wide n, uint32_t base) {
     return count;
 }
 
-/* -1, 0 or 1: what is cut off, against half a step. */
-static int against_half(wide rest, wide step) {
-    wide other = step - rest;
-    return rest < other ? -1 : rest > other;
-}
-
-static bool takes_next(uint32_t direction, bool negative, bool odd, int half) {
-    switch (direction) {
-    case ZURKEB_NEAREST_EVEN:
-        return half > 0 || (half == 0 && odd);
-    case ZURKEB_NEAREST_AWAY:
-        return half >= 0;
-    case ZURKEB_UPWARD:
-        return !negative;
-    case ZURKEB_DOWNWARD:
-        return negative;
-    default:
-        return false;
-    }
-}
-
-static zurkeb_rounded_answer rounded(zurkeb_format f, uint32_t direction, exact x) {
-    int32_t p = (int32_t)f.digits, count = digits_of(x.n, f.base), e = x.exponent + count - p;
-    if (e < f.emin)
+/* Whole steps at the exponent at which the format holds its digits; where more is cut off than stands there, any rest below half a step. */
+static steps cut(zurkeb_format f, exact x) {
+    int32_t count = digits_of(x.n, f.base), e = x.exponent + count - (int32_t)f.digits;
+    if (e < f.emin || x.n == 0)
         e = f.emin;
     int32_t drop = e - x.exponent;
-    wide m = 0;
-    int half = -1;
-    bool inexact = x.n != 0 || x.rest != 0;
-    if (drop < 0) {
-        m = raised(x.n, f.base, -drop);
-        inexact = false;
-    } else if (drop <= count) {
-        wide power = raised(1, f.base, drop);
-        m = x.n / power;
-        wide rest = x.n % power * x.divisor + x.rest;
-        half = against_half(rest, power * x.divisor);
-        inexact = rest != 0;
-    }
-    bool next = inexact && takes_next(direction, x.negative, m % 2 == 1, half);
-    m += next;
-    if (m == raised(1, f.base, p)) {
-        m /= f.base;
-        e++;
-    }
-    if (m == 0)
-        e = f.emin;
-    if (e > f.emax)
-        return refusal_by(ZURKEB_TOO_LARGE);
-    uint32_t side = next != x.negative ? ZURKEB_HIGH : ZURKEB_LOW;
-    return (zurkeb_rounded_answer){0, inexact ? side : ZURKEB_EXACT, {(uint64_t)m, e, x.negative}};
+    if (drop < 0)
+        return (steps){times_power(x.n, f.base, -drop), 0, 1, e};
+    if (drop > count)
+        return (steps){0, x.n != 0 || x.rest != 0, 3, e};
+    wide power = times_power(1, f.base, drop);
+    return (steps){x.n / power, x.n % power * x.divisor + x.rest, power * x.divisor, e};
 }
 
 /* Numbers at most p places apart are added as they are. Further apart, b is a rest below one unit of the place under a's; where it is more
@@ -172,11 +114,11 @@ static exact plain_sum(zurkeb_format f, uint32_t direction, zurkeb_number a, zur
     int32_t gap = a.exponent - b.exponent, p = (int32_t)f.digits;
     bool differ = a.negative != b.negative;
     if (gap > p) {
-        wide bound = raised(1, f.base, p), low = gap == p + 1 ? b.significand : b.significand != 0;
+        wide bound = times_power(1, f.base, p), low = gap == p + 1 ? b.significand : b.significand != 0;
         bool borrow = differ && low != 0;
         return (exact){a.negative, (wide)a.significand * f.base - borrow, borrow ? bound - low : low, bound, a.exponent - 1};
     }
-    wide high = raised(a.significand, f.base, gap), low = b.significand;
+    wide high = times_power(a.significand, f.base, gap), low = b.significand;
     if (!differ)
         return (exact){a.negative, high + low, 0, 1, b.exponent};
     if (high == low)
@@ -206,9 +148,10 @@ static zurkeb_number negated(zurkeb_number x) {
 }
 
 static zurkeb_rounded_answer plain(int o, zurkeb_format f, uint32_t direction, zurkeb_number a, zurkeb_number b) {
-    if (o == 3 && b.significand == 0)
+    if (o == QUOTIENT && b.significand == 0)
         return refusal_by(ZURKEB_DIVISOR_ZERO);
-    return rounded(f, direction, o == 0 ? plain_sum(f, direction, a, b) : o == 1 ? plain_sum(f, direction, a, negated(b)) : o == 2 ? plain_product(a, b) : plain_quotient(f, a, b));
+    exact x = o == 0 ? plain_sum(f, direction, a, b) : o == 1 ? plain_sum(f, direction, a, negated(b)) : o == 2 ? plain_product(a, b) : plain_quotient(f, a, b);
+    return rounded(f, direction, x.negative, cut(f, x));
 }
 
 static const zurkeb_format formats[] = {
@@ -219,7 +162,7 @@ enum { FORMATS = sizeof formats / sizeof *formats };
 
 /* A number of the format: often small, a power of the base, or the last before one. */
 static zurkeb_number member(zurkeb_format f, int32_t near) {
-    uint64_t bound = (uint64_t)raised(1, f.base, (int32_t)f.digits), least = bound / f.base;
+    uint64_t bound = (uint64_t)times_power(1, f.base, (int32_t)f.digits), least = bound / f.base;
     uint32_t sign = random32() & 1, kind = random32() % 8;
     if (kind == 0)
         return (zurkeb_number){random64() % least >> random32() % 64, f.emin, sign};
@@ -230,13 +173,13 @@ static zurkeb_number member(zurkeb_format f, int32_t near) {
 }
 
 static void places(zurkeb_format f, zurkeb_number x) {
-    uint64_t least = (uint64_t)raised(1, f.base, (int32_t)f.digits - 1), first = x.significand != 0;
+    uint64_t least = (uint64_t)times_power(1, f.base, (int32_t)f.digits - 1), first = x.significand != 0;
     while (x.significand / f.base >= first && first != 0)
         first *= f.base;
     same("ufp", zurkeb_ufp(f, x).number.significand, first);
     zurkeb_number unit = zurkeb_ulp(f, x).number;
     if (x.significand != 0)
-        same("ulp", digits_of(unit.significand, f.base) - 1 + unit.exponent == x.exponent && raised(1, f.base, digits_of(unit.significand, f.base) - 1) == unit.significand, 1);
+        same("ulp", digits_of(unit.significand, f.base) - 1 + unit.exponent == x.exponent && times_power(1, f.base, digits_of(unit.significand, f.base) - 1) == unit.significand, 1);
     zurkeb_number_answer by[4] = {zurkeb_ufp_toward_zero(f, x), zurkeb_ulp_upward(f, x), zurkeb_ulp_toward_zero(f, x),
                                   zurkeb_ulp_toward_zero_unbranched(f, x)};
     for (int i = 0; i < 4; i++) {
@@ -254,7 +197,7 @@ static void places(zurkeb_format f, zurkeb_number x) {
     }
 }
 
-static void steps(zurkeb_format f, uint32_t direction, zurkeb_number a, zurkeb_number b) {
+static void three_steps(zurkeb_format f, uint32_t direction, zurkeb_number a, zurkeb_number b) {
     zurkeb_triple_answer t = zurkeb_fast_two_sum(f, direction, direction, direction, a, b);
     if (t.refusal != 0)
         return;
@@ -267,13 +210,9 @@ static void steps(zurkeb_format f, uint32_t direction, zurkeb_number a, zurkeb_n
 static void format(zurkeb_format f) {
     zurkeb_number a = member(f, (f.emin + f.emax) / 2), b = member(f, a.exponent);
     for (uint32_t d = 0; d < 5; d++) {
-        for (int o = 0; o < OPERATIONS; o++) {
-            zurkeb_rounded_answer ours = operations[o](f, d, a, b), wanted = plain(o, f, d, a, b);
-            same(names[o], ours.refusal, wanted.refusal);
-            same(names[o], ours.mark, wanted.mark);
-            same_number(names[o], ours.number, wanted.number);
-        }
-        steps(f, d, a, b);
+        for (int o = 0; o < OPERATIONS; o++)
+            same_answer(names[o], operations[o](f, d, a, b), plain(o, f, d, a, b));
+        three_steps(f, d, a, b);
     }
     places(f, a);
 }
