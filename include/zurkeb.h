@@ -186,11 +186,12 @@ ZURKEB_SIZE(zurkeb_boundary_answer, 16);
 ZURKEB_SIZE(zurkeb_stretch_answer, 24);
 #undef ZURKEB_SIZE
 
-/* Is the format admitted? 0, or 1. */
+/* Is the format admitted? 0 if it is, else refusal 1. */
 uint32_t zurkeb_check_format(zurkeb_format format);
-/* The published format with this number: 1 binary16, 2 binary32, 3 decimal32, 4 binary64, 5 decimal64. Refuses 10. */
+/* The published format with this number: 1 binary16, 2 binary32, 3 decimal32, 4 binary64, 5 decimal64. By name they stand at the end of this
+ * header: ZURKEB_BINARY32. Refuses 10; the format beside it is not admitted. */
 zurkeb_published_answer zurkeb_published(uint32_t number);
-/* Is x in the format? 0, or 1 or 3. */
+/* Is x in the format? 0 if it is, else refusal 1 or 3. */
 uint32_t zurkeb_check_number(zurkeb_format format, zurkeb_number x);
 /* The order of a and b by exact value. Refuses 1, 3. */
 zurkeb_order_answer zurkeb_compare(zurkeb_format format, zurkeb_number a, zurkeb_number b);
@@ -258,7 +259,8 @@ zurkeb_number_answer zurkeb_read_decimal32(uint32_t pattern);
 zurkeb_number_answer zurkeb_read_binary64(uint64_t pattern);
 /* The pattern of a number of published format 4. Refuses 3. */
 zurkeb_pattern64_answer zurkeb_write_binary64(zurkeb_number x);
-/* The next six calls answer a 64-bit number: the refusal (0 for none) in the upper half, the pattern in the lower, 0 at a refusal. */
+/* The next six calls answer a 64-bit number: the refusal (0 for none) in the upper half, the pattern in the lower, 0 at a refusal.
+ * zurkeb_refusal_of and zurkeb_pattern_of take it apart. */
 /* The pattern of a number of published format 2. Refuses 3. */
 uint64_t zurkeb_write_pattern(zurkeb_number x);
 /* The pattern of a number of published format 3, by its own m and e. Refuses 3. */
