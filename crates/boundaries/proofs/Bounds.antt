@@ -8,16 +8,13 @@ use Rattle.theory.proofs.Tests.{and-made}
 use Rattle.theory.proofs.Round.{Nearest}
 use Rattle.fast_two_sum.proofs.Bounds.{none}
 use Rattle.binary32.specs.Patterns.{finite, patternValue}
+pub use Rattle.boundaries.specs.Outcomes.{AllFinite}
 use Rattle.boundaries.specs.declared.Step.{Step}
 use Rattle.boundaries.specs.declared.StepAnswer.{StepAnswer}
 use Rattle.boundaries.specs.Sums.{stripAdded, andOn, stepsFrom, lastX, restsOf}
 use Rattle.boundaries.specs.Totals.{totalOf, sizesOf, finiteStep}
 use Rattle.boundaries.proofs.Distances.{along}
 use Rattle.boundaries.proofs.StepLaws.{TooMuch, pairSum, offBy, Stepped, Outcome, added, too-large, outcome}
-
--- every strip is finite
-abbrev pub AllFinite : List ℕ → Type 0
-AllFinite strips = (k : ℕ) → k < length strips → finite (getD strips k 0) ≡ true
 
 -- how far the last x and all y of the steps are from x and the strips
 abbrev distanceFrom : (x : ℕ) (strips : List ℕ) → List Step → ℕ

@@ -13,46 +13,9 @@ use Rattle.binary32.specs.Patterns.{finite, notFinite}
 use Rattle.binary32.proofs.PatternValues.{finite-made, finite-fails}
 use Rattle.boundaries.specs.Sums.{stepsFrom, boundarySteps, lastX, restsOf, firstOf, stripsSummed, boundaryAnswer, writtenWhere, boundaryRests}
 use Rattle.boundaries.specs.Totals.{totalOf, TotalBound}
-use Rattle.boundaries.proofs.StepLaws.{TooMuch, pairSum}
+use Rattle.boundaries.specs.Outcomes.{AllFinite, Counted, Entered, NotFiniteAt, TooLargeAt, Summed, Ends, strip-count, second-length, no-direction, not-finite, too-large, all-added}
 use Rattle.boundaries.proofs.Passes.{rests-length}
-use Rattle.boundaries.proofs.Bounds.{AllFinite, From, from}
-
--- ---- the ends of a call
-abbrev pub Counted : (strips : List ℕ) → Type 0
-Counted strips = (1 ≤ length strips) × (length strips ≤ 4096)
-
--- the checks of the lengths and of the direction are passed
-pub record Entered (d : ℕ) (strips rests : List ℕ) : Type 0 where
-  pub counted : Counted strips
-  pub second : suc (length rests) ≡ length strips
-  pub directed : d ≤ 4
-
--- strip i is the first that is not finite
-pub record NotFiniteAt (strips : List ℕ) (i : ℕ) : Type 0 where
-  pub within : i < length strips
-  pub fails : finite (getD strips i 0) ≡ false
-  pub earlier : (k : ℕ) → k < i → finite (getD strips k 0) ≡ true
-
--- strip i made the sum too large
-pub record TooLargeAt (d : ℕ) (strips : List ℕ) (i : ℕ) : Type 0 where
-  pub within : i < length strips
-  -- the strips before it were added
-  pub earlier : suc (length (boundarySteps (direction d) strips)) ≡ i
-  -- their sum and strip i, rounded, are beyond the greatest number
-  pub beyond : TooMuch (direction d) (pairSum (lastX (firstOf strips) (boundarySteps (direction d) strips)) (getD strips i 0))
-
--- all strips were added
-pub record Summed (d : ℕ) (strips : List ℕ) (sum : ℕ) : Type 0 where
-  pub complete : suc (length (boundarySteps (direction d) strips)) ≡ length strips
-  pub is : sum ≡ lastX (firstOf strips) (boundarySteps (direction d) strips)
-
-pub data Ends (d : ℕ) (strips rests : List ℕ) : Given ℕ → Type 0 where
-  strip-count : ¬ Counted strips → Ends d strips rests (refused 18)
-  second-length : Counted strips → ¬ (suc (length rests) ≡ length strips) → Ends d strips rests (refused 11)
-  no-direction : Counted strips → suc (length rests) ≡ length strips → 4 < d → Ends d strips rests (refused 2)
-  not-finite : Entered d strips rests → {i : ℕ} → NotFiniteAt strips i → Ends d strips rests (refusedAt 9 i)
-  too-large : Entered d strips rests → AllFinite strips → {i : ℕ} → TooLargeAt d strips i → Ends d strips rests (refusedAt 5 i)
-  all-added : Entered d strips rests → AllFinite strips → {sum : ℕ} → Summed d strips sum → Ends d strips rests (gives sum)
+use Rattle.boundaries.proofs.Bounds.{From, from}
 
 -- what the steps of a boundary say
 whole : (d : ℕ) (s : ℕ) (strips : List ℕ) → AllFinite (s ∷ strips) → From (direction d) s strips (stepsFrom (direction d) s strips)

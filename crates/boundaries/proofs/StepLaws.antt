@@ -29,6 +29,7 @@ use Rattle.binary32.specs.Patterns.{finite, patternValue, numberRead, patternOf
 use Rattle.binary32.proofs.Fields.{binary32-limits}
 use Rattle.binary32.proofs.RoundTrips.{Reads, reads, read-made, read-member, written-read}
 use Rattle.binary32.proofs.PatternValues.{read-is-value}
+pub use Rattle.boundaries.specs.Outcomes.{TooMuch, pairSum}
 use Rattle.boundaries.specs.declared.Step.{Step}
 use Rattle.boundaries.specs.declared.StepAnswer.{StepAnswer}
 use Rattle.boundaries.specs.declared.StepAnswer.the-variants as step
@@ -44,10 +45,6 @@ record Triple (d : Direction) (g : Given Number) (v : ℤ) (t : Steps) : Type 0 
   y-number : member binary32 (t .y) ≡ true
   within : 2 ^ 47 * natAbs (value binary32 (t .x) +ℤ value binary32 (t .y) -ℤ v) ≤ magnitude binary32 (t .x)
   exact : Nearest d → natAbs (value binary32 (t .x) +ℤ value binary32 (t .y) -ℤ v) ≡ 0
-
--- v, rounded, is beyond the greatest number
-abbrev pub TooMuch : Direction → ℤ → Type 0
-TooMuch d v = greatest binary32 < natAbs (roundZ 2 24 d v 1)
 
 data Steps-outcome (d : Direction) (g : Given Number) (v : ℤ) : Given Steps → Type 0 where
   triple : {t : Steps} → Triple d g v t → Steps-outcome d g v (gives t)
@@ -139,10 +136,6 @@ written-finite z h = back-written z h .finite
 
 written-value : (z : Number) → member binary32 z ≡ true → patternValue (patternOf z) ≡ value binary32 z
 written-value z h = sym (read-is-value (patternOf z) (written-finite z h)) ∙ ap (value binary32) (sym (back-written z h .is))
-
--- the exact sum of two patterns
-abbrev pub pairSum : (x s : ℕ) → ℤ
-pairSum x s = patternValue x +ℤ patternValue s
 
 -- how far x and y after a step are from x and s before it
 abbrev pub offBy : (x s : ℕ) (t : Step) → ℕ

@@ -2,3 +2,4 @@
 pub mod Sums
 pub mod Totals
 pub mod Steps
+pub mod Outcomes

@@ -1,6 +1,6 @@
 -- The answers in the request's words: the ends of a call, each with its condition; the entries of a stretch; and no influence of the
 -- patterns outside it.
-use Rattle.theory.proofs.Prelude.{ℕ, _≤_, _<_, _+_, _-_, true, false, Bool, cond, [], List, inl, inr, _⊎_, _∙_, ap, _≡_, sym, refl, subst, decLe, arith, eqb, ℤ, pos, _-ℤ_, length, getD, drop, length-drop, leZ, eq-eqb, le-leb, leb-false, eqb-true}
+use Rattle.theory.proofs.Prelude.{ℕ, _≤_, _<_, _+_, _-_, true, false, Bool, cond, [], List, inl, inr, _⊎_, _∙_, ap, _≡_, sym, refl, subst, decLe, arith, eqb, ℤ, pos, _-ℤ_, length, getD, drop, length-drop, leZ, _≤ℤ_, eq-eqb, le-leb, leb-false, eqb-true}
 use Prim.Native.Nat.{min}
 use lib.ListN.{length-take}
 use lib.Seq.{getD-take, getD-drop, ext-getD}
@@ -9,7 +9,8 @@ use Rattle.theory.specs.Lists.{firstWhere, none}
 use Rattle.theory.proofs.Tests.{never}
 use Rattle.theory.proofs.Lists.{first-before, first-passes}
 use Rattle.format.specs.Given.{Given, gives, refused, refusedAt, _then_}
-use Rattle.format.proofs.Signed.{Upto, Under, le-true, le-false}
+use Rattle.theory.proofs.Integers.{parts-le, parts-lt}
+use Rattle.format.proofs.Signed.{le-true, le-false}
 use Rattle.binary32.specs.Patterns.{finite, notFinite, patternValue, patternValues}
 use Rattle.binary32.proofs.PatternValues.{finite-made, finite-fails, all-finite, value-at, values-length}
 use Rattle.receivers.specs.declared.StretchCheck.{StretchCheck}
@@ -18,7 +19,8 @@ use Rattle.receivers.specs.declared.Calmer.{Calmer}
 use Rattle.receivers.specs.declared.Calmer.the-variants as calmer
 use Rattle.receivers.specs.Answers.{stretchGiven, calmerGiven}
 use Rattle.receivers.specs.Stretches.{greatestOf, leastOf, spread, calmAs, stretch, notRefused, endsWithin, finiteWithin, calmerRefusal, calmerLog, stretchOf, calmerStretch}
-use Rattle.receivers.proofs.ExtremeLaws.{Extreme, Downto, greatest-is, least-is}
+use Rattle.receivers.specs.Outcomes.{Within, FiniteFrom, FirstNotFinite, AtLeast, ExtremeWithin, spreadWithin, Spread, Ends, lengths-differ, outside, first-not-finite, second-not-finite, first-calmer, second-calmer, SameWithin}
+use Rattle.receivers.proofs.ExtremeLaws.{Extreme, greatest-is, least-is}
 use Rattle.receivers.proofs.Refusals.{ends, stretch-length, not-refused, not-refused-at}
 
 -- ---- what a caller has of an answer
@@ -44,57 +46,6 @@ second-named (calmer.RefusedAt why index) h = absurd (not-refused-at (sym h))
 pub entry-is : (log : List ℕ) (start n i : ℕ) → i < n → getD (stretch log start n) i 0 ≡ getD log (start + i) 0
 entry-is log start n i h = getD-take n (drop start log) i 0 h ∙ getD-drop start log i 0
 
--- ---- the ends of a call
--- logs of one length, and a stretch that is not empty and ends within them
-pub record Within (first second : List ℕ) (start n : ℕ) : Type 0 where
-  pub same : length first ≡ length second
-  pub some : 1 ≤ n
-  pub most : start + n ≤ length first
-
--- every pattern of the stretch from index start up to the one before `end` is finite
-abbrev pub FiniteFrom : (log : List ℕ) (start end : ℕ) → Type 0
-FiniteFrom log start end = (k : ℕ) → start ≤ k → k < end → finite (getD log k 0) ≡ true
-
--- index i of the log is the first of the stretch whose pattern is not finite
-pub record FirstNotFinite (log : List ℕ) (start n i : ℕ) : Type 0 where
-  pub from : start ≤ i
-  pub within : i < start + n
-  pub fails : finite (getD log i 0) ≡ false
-  pub earlier : FiniteFrom log start i
-
--- v is the value of a pattern of the stretch, which no pattern of the stretch passes in the order
-pub record ExtremeWithin (order : ℤ → ℤ → Type 0) (log : List ℕ) (start n : ℕ) (v : ℤ) : Type 0 where
-  pub index : ℕ
-  pub from : start ≤ index
-  pub within : index < start + n
-  pub is : patternValue (getD log index 0) ≡ v
-  pub most : (k : ℕ) → start ≤ k → k < start + n → order (patternValue (getD log k 0)) v
-
--- the spread of the values of the stretch
-abbrev pub spreadWithin : (log : List ℕ) (start n : ℕ) → ℤ
-spreadWithin log start n = spread (patternValues (stretch log start n))
-
--- it is the difference of the greatest and the least
-pub record Spread (log : List ℕ) (start n : ℕ) : Type 0 where
-  pub high : ℤ
-  pub high-greatest : ExtremeWithin Upto log start n high
-  pub low : ℤ
-  pub low-least : ExtremeWithin Downto log start n low
-  pub difference : spreadWithin log start n ≡ high -ℤ low
-
--- what calmer_refusal and calmer_log give and calmer_stretch hands back, with the condition of each end: no earlier one holds
-pub data Ends (first second : List ℕ) (start n : ℕ) : Given Unit → Given ℕ → List ℕ → Type 0 where
-  lengths-differ : ¬ (length first ≡ length second) → Ends first second start n (refused 11) (refused 11) []
-  outside : length first ≡ length second → (n ≡ 0) ⊎ (length first < start + n) → Ends first second start n (refused 17) (refused 17) []
-  first-not-finite : Within first second start n → (i : ℕ) → FirstNotFinite first start n i
-      → Ends first second start n (refusedAt 9 i) (refusedAt 9 i) []
-  second-not-finite : Within first second start n → FiniteFrom first start (start + n) → (i : ℕ) → FirstNotFinite second start n i
-      → Ends first second start n (refusedAt 9 i) (refusedAt 9 i) []
-  first-calmer : Within first second start n → FiniteFrom first start (start + n) → FiniteFrom second start (start + n)
-      → Upto (spreadWithin first start n) (spreadWithin second start n) → Ends first second start n notRefused (gives 1) (stretch first start n)
-  second-calmer : Within first second start n → FiniteFrom first start (start + n) → FiniteFrom second start (start + n)
-      → Under (spreadWithin second start n) (spreadWithin first start n) → Ends first second start n notRefused (gives 2) (stretch second start n)
-
 module _ (log : List ℕ) (start n : ℕ) (m : start + n ≤ length log) where
   abbrev part : List ℕ
   part = stretch log start n
@@ -111,8 +62,9 @@ module _ (log : List ℕ) (start n : ℕ) (m : start + n ≤ length log) where
   long : length (patternValues part) ≡ n
   long = values-length part ∙ stretch-length log start n m
 
-  extreme : (order : ℤ → ℤ → Type 0) {v : ℤ} → Extreme order (patternValues part) v → ExtremeWithin order log start n v
-  extreme order {v} e =
+  extreme : {parts : ℤ → ℤ → Type 0} (order : ℤ → ℤ → Type 0) → ((v w : ℤ) → parts v w → order v w) → {v : ℤ} → Extreme parts (patternValues part) v
+      → ExtremeWithin order log start n v
+  extreme order made {v} e =
       let few : e .place < n = omega (arith, long, e .inside) in
       record {
         index = start + e .place;
@@ -122,7 +74,7 @@ module _ (log : List ℕ) (start n : ℕ) (m : start + n ≤ length log) where
         most =
             λ k l h. let back : start + (k - start) ≡ k = omega arith in
             subst (λ (i : ℕ). order (patternValue (getD log i 0)) v) back
-            (subst (λ (w : ℤ). order w v) (value-is (k - start) (omega arith)) (e .most (k - start) (omega (arith, long))));
+            (subst (λ (w : ℤ). order w v) (value-is (k - start) (omega arith)) (made _ v (e .most (k - start) (omega (arith, long)))));
       }
 
   pub spread-is : 1 ≤ n → Spread log start n
@@ -130,9 +82,9 @@ module _ (log : List ℕ) (start n : ℕ) (m : start + n ≤ length log) where
   spread-is h =
       record {
         high = greatestOf (patternValues part);
-        high-greatest = extreme Upto (greatest-is (patternValues part) (omega (arith, long)));
+        high-greatest = extreme _≤ℤ_ parts-le (greatest-is (patternValues part) (omega (arith, long)));
         low = leastOf (patternValues part);
-        low-least = extreme Downto (least-is (patternValues part) (omega (arith, long)));
+        low-least = extreme AtLeast (λ v w. parts-le w v) (least-is (patternValues part) (omega (arith, long)));
         difference = refl;
       }
 
@@ -177,8 +129,8 @@ calls-end first second start n = by-lengths (eqb (length first) (length second))
 
     by-spread : Within first second start n → FiniteFrom first start (start + n) → FiniteFrom second start (start + n) → (t : Bool) → c ≡ t
         → Ends first second start n notRefused (gives (cond t 1 2)) (stretchOf (gives (cond t 1 2)) (stretch first start n) (stretch second start n))
-    by-spread w f g true e = first-calmer w f g (le-true (spreadWithin first start n) (spreadWithin second start n) e)
-    by-spread w f g false e = second-calmer w f g (le-false (spreadWithin first start n) (spreadWithin second start n) e)
+    by-spread w f g true e = first-calmer w f g (parts-le (spreadWithin first start n) (spreadWithin second start n) (le-true (spreadWithin first start n) (spreadWithin second start n) e))
+    by-spread w f g false e = second-calmer w f g (parts-lt (spreadWithin second start n) (spreadWithin first start n) (le-false (spreadWithin first start n) (spreadWithin second start n) e))
 
     by-second : Within first second start n → FiniteFrom first start (start + n) → (t : Bool) → none notFinite (stretch second start n) ≡ t
         → EndsBy (unless t (refusedAt 9 (start + firstWhere notFinite (stretch second start n))) notRefused)
@@ -201,11 +153,6 @@ calls-end first second start n = by-lengths (eqb (length first) (length second))
     by-lengths false h = lengths-differ (λ e. never (sym (eq-eqb _ _ e) ∙ h))
 
 -- ---- patterns outside the stretch have no influence
--- two logs, equally long, with the same patterns in the stretch
-pub record SameWithin (start n : ℕ) (log log′ : List ℕ) : Type 0 where
-  pub long : length log ≡ length log′
-  pub entries : (k : ℕ) → start ≤ k → k < start + n → getD log k 0 ≡ getD log′ k 0
-
 module _ (start n : ℕ) where
   length-is : (log : List ℕ) → length (stretch log start n) ≡ min n (length log - start)
   length-is log = length-take n (drop start log) ∙ ap (min n) (length-drop start log)

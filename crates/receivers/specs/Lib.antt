@@ -2,3 +2,4 @@
 pub mod Stretches
 pub mod Answers
 pub mod Spreads
+pub mod Outcomes

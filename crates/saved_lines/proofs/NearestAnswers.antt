@@ -5,20 +5,10 @@ use Rattle.binary32.specs.Patterns.{finite, patternValue, patternValues}
 use Rattle.binary32.proofs.PatternValues.{value-at, values-length}
 use Rattle.saved_lines.specs.Offsets.{distance, nearest}
 use Rattle.saved_lines.specs.Lines.{Checked, nearestLine}
+use Rattle.saved_lines.specs.Outcomes.{away, Nearest, NearestEnds, list-refused, found}
 use Rattle.saved_lines.proofs.NearestLaws.{nearest-position, nearest-least, smaller-wins, one-tie}
 use Rattle.saved_lines.proofs.Offsets.{offsets-rise}
-use Rattle.saved_lines.proofs.Refusals.{offset, TurnedAway, checks-end}
-
--- how far it is from the query
-abbrev pub away : List ℕ → (q k : ℕ) → ℕ
-away l q k = distance (offset l k) (patternValue q)
-
--- ---- n is the line nearest to the query q
-pub record Nearest (l : List ℕ) (q n : ℕ) : Type 0 where
-  pub position : n < length l
-  pub none-nearer : (k : ℕ) → k < length l → away l q n ≤ away l q k
-  pub smaller-wins : (k : ℕ) → k < length l → k ≢ n → away l q k ≡ away l q n → offset l n <ℤ offset l k
-  pub one-tie : (j k : ℕ) → j < k → k < length l → j ≢ n → k ≢ n → away l q j ≡ away l q n → away l q k ≡ away l q n → ⊥
+use Rattle.saved_lines.proofs.Refusals.{offset, checks-end}
 
 pub nearest-is-nearest : (l : List ℕ) (q : ℕ) → Checked l → Nearest l q (nearest (patternValues l) (patternValue q))
 nearest-is-nearest l q c =
@@ -49,13 +39,8 @@ nearest-is-nearest l q c =
 pub nearest-small : (l : List ℕ) (q : ℕ) → Checked l → {n : ℕ} → n ≡ nearest (patternValues l) (patternValue q) → n < 2 ^ 32
 nearest-small l q c e = omega (arith, nearest-is-nearest l q c .position, c .most)
 
--- ---- the ends of a call
-pub data Ends (l : List ℕ) (q : ℕ) : Given ℕ → Type 0 where
-  turned-away : {x : Given ℕ} → TurnedAway l (finite q) x → Ends l q x
-  found : {n : ℕ} → Checked l → finite q ≡ true → Nearest l q n → Ends l q (gives n)
-
-pub nearest-ends : (l : List ℕ) (q : ℕ) → Ends l q (nearestLine l q)
+pub nearest-ends : (l : List ℕ) (q : ℕ) → NearestEnds l q (nearestLine l q)
 unfolding nearestLine
 nearest-ends l q =
-    checks-end l (finite q) (λ _. gives (nearest (patternValues l) (patternValue q))) (Ends l q) (λ x a. turned-away a)
+    checks-end l (finite q) (λ _. gives (nearest (patternValues l) (patternValue q))) (NearestEnds l q) (λ x a. list-refused a)
     (λ c g. found c g (nearest-is-nearest l q c))

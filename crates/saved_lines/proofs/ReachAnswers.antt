@@ -10,17 +10,15 @@ use Rattle.binary32.proofs.PatternValues.{value-at, values-length}
 use Rattle.saved_lines.specs.Offsets.{at, distance, isWithin}
 use Rattle.saved_lines.specs.Positions.{Among}
 use Rattle.saved_lines.specs.Lines.{linesChecked, Checked, linesFound, linesWithin}
+use Rattle.saved_lines.specs.Outcomes as outcomes
+use Rattle.saved_lines.specs.Outcomes.{Within, ReachEnds}
 use Rattle.saved_lines.proofs.DistanceLaws.{distance-is}
 use Rattle.saved_lines.proofs.PositionLists.{position-found, Passing, found-position, positions-none}
-use Rattle.saved_lines.proofs.Refusals.{offset, TurnedAway, checks-end}
+use Rattle.saved_lines.proofs.Refusals.{offset, checks-end}
 
 module _ (l : List ℕ) (q d : ℕ) where
   -- ---- the positions found are those of the lines at most the distance away
-  pub record Within (n : ℕ) : Type 0 where
-    pub position : n < length l
-    pub near : pos (distance (offset l n) (patternValue q)) ≤ℤ patternValue d
-
-  pub within-is-found : (n : ℕ) → Within n → Among n (linesFound l q d)
+  pub within-is-found : (n : ℕ) → Within l q d n → Among n (linesFound l q d)
   unfolding isWithin
   within-is-found n w =
       let none-before : 0 + n ≡ n = omega arith in
@@ -28,13 +26,13 @@ module _ (l : List ℕ) (q d : ℕ) where
       (position-found (isWithin (patternValue q) (patternValue d)) (pos 0) (patternValues l) 0 n (omega (arith, w .position, values-length l))
       (rw (value-at l n) (make-le (pos (distance (offset l n) (patternValue q))) (patternValue d) (le-parts (w .near)))))
 
-  pub found-is-within : (n : ℕ) → Among n (linesFound l q d) → Within n
+  pub found-is-within : (n : ℕ) → Among n (linesFound l q d) → Within l q d n
   unfolding isWithin
   found-is-within n a =
       let p = found-position (isWithin (patternValue q) (patternValue d)) (pos 0) (patternValues l) 0 (a .place) (a .inside) in
-      subst Within (sym (p .is ∙ omega arith) ∙ a .is) (passing p)
+      subst (Within l q d) (sym (p .is ∙ omega arith) ∙ a .is) (passing p)
     where
-      passing : {m : ℕ} (p : Passing (isWithin (patternValue q) (patternValue d)) (pos 0) (patternValues l) 0 m) → Within (p .place)
+      passing : {m : ℕ} (p : Passing (isWithin (patternValue q) (patternValue d)) (pos 0) (patternValues l) 0 m) → Within l q d (p .place)
       passing p =
           record {
             position = omega (arith, p .inside, values-length l);
@@ -54,34 +52,28 @@ module _ (l : List ℕ) (q d : ℕ) where
           by false e = refl
 
   -- a distance of zero finds the offsets equal to the query
-  pub zero-equal : patternValue d ≡ pos 0 → (n : ℕ) → Within n → offset l n ≡ patternValue q
+  pub zero-equal : patternValue d ≡ pos 0 → (n : ℕ) → Within l q d n → offset l n ≡ patternValue q
   zero-equal z n w = parts-eq (offset l n) (patternValue q) (omega (arith, le-parts (rw z at (w .near)), distance-is (offset l n) (patternValue q)))
 
-  pub equal-zero : patternValue d ≡ pos 0 → (n : ℕ) → n < length l → offset l n ≡ patternValue q → Within n
+  pub equal-zero : patternValue d ≡ pos 0 → (n : ℕ) → n < length l → offset l n ≡ patternValue q → Within l q d n
   equal-zero z n h e =
       record {
         position = h;
         near = rw z (parts-le (pos (distance (offset l n) (patternValue q))) (pos 0) (omega (arith, distance-is (offset l n) (patternValue q), ap above e, ap below e)));
       }
 
--- ---- the ends of a call
-pub data Ends (l : List ℕ) (q d room : ℕ) : Given ℕ → Type 0 where
-  turned-away : {x : Given ℕ} → TurnedAway l (finite q and finite d) x → Ends l q d room x
-  too-short : Checked l → finite q and finite d ≡ true → room < length (linesFound l q d) → Ends l q d room (refused 14)
-  found : Checked l → finite q and finite d ≡ true → length (linesFound l q d) ≤ room → Ends l q d room (gives (length (linesFound l q d)))
-
-pub within-ends : (l : List ℕ) (q d room : ℕ) → Ends l q d room (linesWithin l q d room)
+pub within-ends : (l : List ℕ) (q d room : ℕ) → ReachEnds l q d room (linesWithin l q d room)
 unfolding linesWithin unless
 within-ends l q d room =
-    checks-end l (finite q and finite d) (λ _. unless (leb count room) (refused 14) (gives count)) (Ends l q d room) (λ x a. turned-away a)
+    checks-end l (finite q and finite d) (λ _. unless (leb count room) (refused 14) (gives count)) (ReachEnds l q d room) (λ x a. outcomes.reach-refused a)
     (λ c g. by c g (leb count room) refl)
   where
     count : ℕ
     count = length (linesFound l q d)
 
-    by : Checked l → finite q and finite d ≡ true → (t : Bool) → leb count room ≡ t → Ends l q d room (unless t (refused 14) (gives count))
-    by c g true e = found c g (leb-true count room e)
-    by c g false e = too-short c g (leb-false count room e)
+    by : Checked l → finite q and finite d ≡ true → (t : Bool) → leb count room ≡ t → ReachEnds l q d room (unless t (refused 14) (gives count))
+    by c g true e = outcomes.reached c g (leb-true count room e)
+    by c g false e = outcomes.too-short c g (leb-false count room e)
 
 -- a distance below zero never gives 14: after the checks it finds none
 pub below-zero-answers : (l : List ℕ) (q d room : ℕ) → patternValue d <ℤ pos 0

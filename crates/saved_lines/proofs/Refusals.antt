@@ -11,44 +11,8 @@ use Rattle.binary32.specs.Patterns.{finite, notFinite, patternValue, patternVal
 use Rattle.binary32.proofs.PatternValues.{finite-made, finite-fails, all-finite, value-at, values-length}
 use Rattle.saved_lines.specs.Offsets.{at, falls, descends, equals, repeats}
 use Rattle.saved_lines.specs.Lines.{passed, patternsChecked, ascentChecked, linesChecked, Checked}
+pub use Rattle.saved_lines.specs.Outcomes.{offset, Allowed, AllFinite, Descent, Ascends, Repetition, ListRefused, wrong-length, bad-pattern, bad-number, descending, repeating}
 use Rattle.saved_lines.proofs.NearestLaws.{descends-made, repeats-made}
-
--- the offset at a position of a list of patterns
-abbrev pub offset : List ℕ → ℕ → ℤ
-offset l k = patternValue (getD l k 0)
-
--- an allowed length
-pub record Allowed (l : List ℕ) : Type 0 where
-  pub some : 1 ≤ length l
-  pub most : length l ≤ 4096
-
--- the patterns before n are finite
-abbrev pub AllFinite : List ℕ → (n : ℕ) → Type 0
-AllFinite l n = (k : ℕ) → k < n → finite (getD l k 0) ≡ true
-
--- some offset is above the next
-pub record Descent (l : List ℕ) : Type 0 where
-  pub place : ℕ
-  pub inside : suc place < length l
-  pub falls : offset l (suc place) <ℤ offset l place
-
--- none is
-abbrev pub Ascends : List ℕ → Type 0
-Ascends l = (k : ℕ) → suc k < length l → offset l k ≤ℤ offset l (suc k)
-
--- two neighbours are equal
-pub record Repetition (l : List ℕ) : Type 0 where
-  pub place : ℕ
-  pub inside : suc place < length l
-  pub equal : offset l place ≡ offset l (suc place)
-
--- l is turned away with the answer; t: the numbers beside it are finite
-pub data TurnedAway {A : Type 0} (l : List ℕ) (t : Bool) : Given A → Type 0 where
-  wrong-length : (length l ≡ 0) ⊎ (4096 < length l) → TurnedAway l t (refused 12)
-  bad-pattern : {n : ℕ} → Allowed l → n < length l → finite (getD l n 0) ≡ false → AllFinite l n → TurnedAway l t (refusedAt 9 n)
-  bad-number : Allowed l → AllFinite l (length l) → t ≡ false → TurnedAway l t (refused 9)
-  descending : Allowed l → AllFinite l (length l) → t ≡ true → Descent l → TurnedAway l t (refused 13)
-  repeating : Allowed l → AllFinite l (length l) → t ≡ true → Ascends l → Repetition l → TurnedAway l t (refused 15)
 
 module _ (l : List ℕ) where
   wrong : leb 1 (length l) and leb (length l) 4096 ≡ false → (length l ≡ 0) ⊎ (4096 < length l)
@@ -119,7 +83,7 @@ module _ (l : List ℕ) where
 
 -- what follows the checks, if nothing is turned away
 pub checks-end : {A : Type 0} (l : List ℕ) (t : Bool) (next : Unit {0} → Given A) (E : Given A → Type 0)
-    → ((x : Given A) → TurnedAway l t x → E x) → (Checked l → t ≡ true → E (next tt)) → E (linesChecked l t then next)
+    → ((x : Given A) → ListRefused l t x → E x) → (Checked l → t ≡ true → E (next tt)) → E (linesChecked l t then next)
 unfolding linesChecked patternsChecked ascentChecked unless
 checks-end l t next E away go-on = by (leb 1 (length l) and leb (length l) 4096) (none notFinite l) t (descends (patternValues l)) (repeats (patternValues l)) refl refl refl refl refl
   where

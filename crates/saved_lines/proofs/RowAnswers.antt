@@ -9,23 +9,12 @@ use Rattle.binary32.proofs.PatternValues.{all-finite}
 use Rattle.saved_lines.specs.Offsets.{descends}
 use Rattle.saved_lines.specs.Lines.{passed, patternsChecked, linesChecked, Checked, nearestLine}
 use Rattle.saved_lines.specs.Rows.{rowLooked, rowFound, Queried, queriesChecked, nearestLines}
+use Rattle.saved_lines.specs.Outcomes.{Fitting, RowEnds, lengths-differ, row-list-refused, bad-query, queries-descend, looked}
 use Rattle.saved_lines.proofs.Checking.{listGiven-passes}
-use Rattle.saved_lines.proofs.Refusals.{AllFinite, Descent, descent, finite-before, bad-there, bad-first, TurnedAway, checks-end}
+use Rattle.saved_lines.proofs.Refusals.{descent, finite-before, bad-there, bad-first, checks-end}
 use Rattle.saved_lines.proofs.RowPatterns.{found-at, count-most}
 
--- as many queries as places in `out`, and not too many
-abbrev pub Fitting : (qs : List ℕ) (room : ℕ) → Type 0
-Fitting qs room = (length qs ≡ room) × (length qs ≤ 4096)
-
--- ---- the ends of a call
-pub data Ends (l qs : List ℕ) (room : ℕ) : Given ℕ → Type 0 where
-  lengths-differ : ¬ Fitting qs room → Ends l qs room (refused 11)
-  turned-away : {x : Given ℕ} → Fitting qs room → TurnedAway l true x → Ends l qs room x
-  bad-query : {n : ℕ} → Fitting qs room → Checked l → n < length qs → finite (getD qs n 0) ≡ false → AllFinite qs n → Ends l qs room (refusedAt 9 n)
-  descending : Fitting qs room → Checked l → AllFinite qs (length qs) → Descent qs → Ends l qs room (refused 16)
-  counted : Fitting qs room → Checked l → Queried qs → Ends l qs room (gives (rowLooked (patternValues l) 0 (patternValues qs)))
-
-pub row-ends : (l qs : List ℕ) (room : ℕ) → Ends l qs room (nearestLines l qs room)
+pub row-ends : (l qs : List ℕ) (room : ℕ) → RowEnds l qs room (nearestLines l qs room)
 unfolding nearestLines queriesChecked patternsChecked unless
 row-ends l qs room = by-lengths (eqb (length qs) room and leb (length qs) 4096) refl
   where
@@ -33,16 +22,16 @@ row-ends l qs room = by-lengths (eqb (length qs) room and leb (length qs) 4096) 
     count = gives (rowLooked (patternValues l) 0 (patternValues qs))
 
     by-queries : Fitting qs room → Checked l → (b d : Bool) → none notFinite qs ≡ b → descends (patternValues qs) ≡ d
-        → Ends l qs room (unless b (refusedAt 9 (firstWhere notFinite qs)) (unless (not d) (refused 16) passed) then λ _. count)
+        → RowEnds l qs room (unless b (refusedAt 9 (firstWhere notFinite qs)) (unless (not d) (refused 16) passed) then λ _. count)
     by-queries f c false d e g = bad-query f c (bad-there qs e) (bad-first qs e) (finite-before qs)
-    by-queries f c true true e g = descending f c (all-finite qs e) (descent qs g)
-    by-queries f c true false e g = counted f c (record { finite = e; order = g })
+    by-queries f c true true e g = queries-descend f c (all-finite qs e) (descent qs g)
+    by-queries f c true false e g = looked f c (record { finite = e; order = g })
 
     by-lengths : (t : Bool) → eqb (length qs) room and leb (length qs) 4096 ≡ t
-        → Ends l qs room (unless t (refused 11) (linesChecked l true then λ _. queriesChecked qs then λ _. count))
+        → RowEnds l qs room (unless t (refused 11) (linesChecked l true then λ _. queriesChecked qs then λ _. count))
     by-lengths true h =
         let f : Fitting qs room = (eqb-true _ _ (and-left _ _ h), leb-true _ _ (and-right _ _ h)) in
-        checks-end l true (λ _. queriesChecked qs then λ _. count) (Ends l qs room) (λ x a. turned-away f a)
+        checks-end l true (λ _. queriesChecked qs then λ _. count) (RowEnds l qs room) (λ x a. row-list-refused f a)
         (λ c g. by-queries f c (none notFinite qs) (descends (patternValues qs)) refl refl)
     by-lengths false h = lengths-differ (λ f. never (sym (and-made (eq-eqb _ _ (f .0)) (le-leb _ _ (f .1))) ∙ h))
 

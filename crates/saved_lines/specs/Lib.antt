@@ -5,3 +5,4 @@ pub mod Searches
 pub mod Lines
 pub mod Walks
 pub mod Rows
+pub mod Outcomes
