@@ -9,9 +9,10 @@ significand, exponent. Below zero is two's complement. Columns that a call does 
 - A comparison answers -1, 0 or 1 as a sign and a significand.
 - A number of quotient digits stands as a significand.
 - The three-step sum, each step in the row's direction, answers x.
-- A line that ends with the publisher's inexact flag makes a row that asks for the mark alone and answers 0 or 1; patterns stand there as
-  numbers of binary32."""
+- A line that ends with the publisher's inexact flag makes a row that asks for the mark alone and answers 0, 1 or 2: exact, low, high. The
+  publisher's answer is compared with the exact result for it, and the flag has to say the same; patterns stand there as numbers of binary32."""
 import os
+from fractions import Fraction
 
 FILES = ["binary32_nearest.txt", "binary32_directions.txt", "decimal.txt", "minus_zero.txt", "decimal32.txt", "wide.txt", "fractions.txt", "scope.txt", "digits.txt", "conversions.txt"]
 FLAGGED = ["inexact/binary32_directions.txt", "inexact/decimal.txt"]
@@ -19,7 +20,7 @@ FLAGGED = ["inexact/binary32_directions.txt", "inexact/decimal.txt"]
 NUMBERS = ["sum", "diff", "prod", "quot", "frac", "cmp", "abs", "neg", "pred", "succ", "ufp"]
 PATTERNS = ["sum", "diff", "prod", "quot"]
 DECIMAL32 = ["dread", "dwrite"]
-OPERATIONS = NUMBERS + ["pattern " + name for name in PATTERNS] + ["inexact " + name for name in PATTERNS] + DECIMAL32 + ["digits", "conv", "steps"]
+OPERATIONS = NUMBERS + ["pattern " + name for name in PATTERNS] + ["mark " + name for name in PATTERNS] + DECIMAL32 + ["digits", "conv", "steps"]
 BINARY32 = [2, 24, -149, 104]
 NOTHING = [0, 0, 0]
 
@@ -65,15 +66,28 @@ def number_of(pattern):
     return [sign, significand, exponent]
 
 
+def value(base, sign, significand, exponent):
+    return (-1) ** sign * significand * Fraction(base) ** exponent
+
+
+def mark(name, base, operands, result):
+    a, b, kept = value(base, *operands[:3]), value(base, *operands[3:]), value(base, *result)
+    exact = a / b if name == "quot" else {"sum": a + b, "diff": a - b, "prod": a * b}[name]
+    return 0 if kept == exact else 1 if kept < exact else 2
+
+
 def flagged_row(line):
     words = line.split()
-    flag = int(words.pop())
-    if words.index("->") == 4:
+    flag, arrow = int(words.pop()), words.index("->")
+    if arrow == 4:
         name, direction, a, b = words[:4]
-        values = BINARY32 + [int(direction)] + number_of(a) + number_of(b)
+        values, result = BINARY32 + [int(direction)] + number_of(a) + number_of(b), number_of(words[5][8:])
     else:
-        name, values = words[0], [int(word) for word in words[1 : words.index("->")]]
-    return [OPERATIONS.index("inexact " + name)] + values + [0, 0, flag, 0]
+        name, values = words[0], [int(word) for word in words[1:arrow]]
+        result = [int(word) for word in words[arrow + 2 :]]
+    says = mark(name, values[0], values[5:], result)
+    assert flag == min(says, 1), line
+    return [OPERATIONS.index("mark " + name)] + values + [0, 0, says, 0]
 
 
 def row(line):

@@ -1,17 +1,22 @@
 -- Sum and product commute, the difference is the sum with the second number negated, and x + 0, x × 1 and x ÷ 1 are x.
-use Rattle.theory.proofs.Prelude.{ℕ, _≤_, _+_, _^_, _-_, suc, zero, true, false, Bool, not, xor, [], _∷_, List, _∙_, ap, _≡_, sym, refl, ap₂, pow-zero, mul-comm, arith, ℤ, pos, _+ℤ_, natAbs, _-ℤ_, negℤ, +ℤ-comm}
-use Rattle.arithmetic.proofs.Prelude.{Direction, all, _and_, signed, pow-pos, Format, highestPlace, Given, gives, direction, gives-same, gives-not-refused, Number, aboveZero, belowZero, member, magnitude, value, number, members, member-made, checks-end, roundedSum, roundedZ, roundedProduct, summed, subtracted, multiplied, divided, and-left, Admitted, admits, distances, checked, Checks, not-admitted, no-direction, not-member, all-passed, signed-member, negated-value}
-use Rattle.theory.proofs.Integers.{size-parts, size-signed, plus-sign}
+use Rattle.theory.proofs.Prelude.{ℕ, _≤_, _+_, _*_, _^_, _-_, suc, zero, true, false, Bool, not, xor, [], _∷_, List, _∙_, ap, _≡_, sym, refl, ap₂, pow-zero, mul-comm, arith, ℤ, pos, _+ℤ_, natAbs, _-ℤ_, _*ℤ_, negℤ, +ℤ-comm}
+use Rattle.arithmetic.proofs.Prelude.{Direction, all, _and_, signed, pow-pos, Format, highestPlace, Given, gives, direction, gives-same, gives-not-refused, Number, aboveZero, belowZero, member, magnitude, value, number, members, member-made, checks-end, rounded, roundedSum, roundedZ, roundedProduct, Rounded, and-left, scale-signed, Admitted, admits, distances, checked, Checks, not-admitted, no-direction, not-member, all-passed, signed-member, negated-value}
+use Rattle.theory.proofs.Integers.{size-parts, size-signed, plus-sign, times-one}
 use Rattle.number.specs.Signs.{negated}
+use Rattle.theory.specs.declared.Mark.{Mark}
+use Rattle.theory.specs.declared.Mark.the-variants.{Exact}
+use Rattle.theory.proofs.Marks.{mark-equal}
 use Rattle.arithmetic.specs.Operations.{zeroSign}
+use Rattle.arithmetic.specs.Marked.{marked, sumAnswer, differenceAnswer, productAnswer}
+use Rattle.arithmetic.specs.Quotients.{withoutDigits, quotientAnswer}
 use Rattle.wide.proofs.Signs.{sum-none}
-use Rattle.arithmetic.proofs.Prepared.{no-magnitude, parts-above, parts-below, divisor-positive, divisor-some}
+use Rattle.arithmetic.proofs.Prepared.{product-signed, no-magnitude, parts-above, parts-below, divisor-positive, divisor-some}
 use Rattle.arithmetic.proofs.Pairs.{zero-swap}
 use Rattle.arithmetic.proofs.Outcome.{rounded-exact, roundedZ-exact}
-use Rattle.arithmetic.proofs.Calls.{Checked, call-passed}
+use Rattle.arithmetic.proofs.Calls.{Checked, call-passed, quotient-call}
 
 -- the checks depend on what the numbers' tests say together
-checked-same : (f : Format) (d : ℕ) (xs ys : List Number) → all (member f) xs ≡ all (member f) ys → {g h : Given Number} → g ≡ h → checked f (d ∷ []) xs g ≡ checked f (d ∷ []) ys h
+checked-same : {A : Type 0} (f : Format) (d : ℕ) (xs ys : List Number) → all (member f) xs ≡ all (member f) ys → {g h : Given A} → g ≡ h → checked f (d ∷ []) xs g ≡ checked f (d ∷ []) ys h
 unfolding checked
 checked-same f d xs ys e k = rw (e, k)
 
@@ -34,24 +39,31 @@ pub sum-swap : (f : Format) (d : Direction) (a b : Number) → roundedSum f d a 
 sum-swap f d a b = ap₂ (roundedZ f d) (zero-swap d (a .negative) (b .negative)) (+ℤ-comm (value f a) (value f b))
 
 module _ (f : Format) (d : ℕ) (a b : Number) where
-  checked-swap : {g h : Given Number} → g ≡ h → checked f (d ∷ []) (a ∷ b ∷ []) g ≡ checked f (d ∷ []) (b ∷ a ∷ []) h
+  checked-swap : {A : Type 0} {g h : Given A} → g ≡ h → checked f (d ∷ []) (a ∷ b ∷ []) g ≡ checked f (d ∷ []) (b ∷ a ∷ []) h
   unfolding all
   checked-swap = checked-same f d (a ∷ b ∷ []) (b ∷ a ∷ []) (and-swap (member f a) (member f b))
 
-  pub summed-commutes : summed f d a b ≡ summed f d b a
-  unfolding summed
-  summed-commutes = checked-swap (sum-swap f (direction d) a b)
+  pub sum-commutes : sumAnswer f d a b ≡ sumAnswer f d b a
+  unfolding sumAnswer
+  sum-commutes = checked-swap (ap₂ (λ (z : ℤ) (g : Given Number). marked f z 1 g) (+ℤ-comm (value f a) (value f b)) (sum-swap f (direction d) a b))
 
-  pub multiplied-commutes : multiplied f d a b ≡ multiplied f d b a
-  unfolding multiplied roundedProduct
-  multiplied-commutes = checked-swap (rw (xor-swap (a .negative) (b .negative), mul-comm (magnitude f a) (magnitude f b)))
+  product-swap : signed (xor (a .negative) (b .negative)) (magnitude f a * magnitude f b * f .base ^ aboveZero (f .emin))
+      ≡ signed (xor (b .negative) (a .negative)) (magnitude f b * magnitude f a * f .base ^ aboveZero (f .emin))
+  product-swap = rw (xor-swap (a .negative) (b .negative), mul-comm (magnitude f a) (magnitude f b))
+
+  pub product-commutes : productAnswer f d a b ≡ productAnswer f d b a
+  unfolding productAnswer roundedProduct
+  product-commutes =
+      checked-swap
+      (ap₂ (λ (z : ℤ) (g : Given Number). marked f z (f .base ^ belowZero (f .emin)) g) (sym (product-signed f a b) ∙ product-swap ∙ product-signed f b a)
+      (rw (xor-swap (a .negative) (b .negative), mul-comm (magnitude f a) (magnitude f b))))
 
   -- ---- the difference is the sum with the second number negated
-  pub subtracted-negated : {c : Number} → negated f b ≡ gives c → subtracted f d a b ≡ summed f d a c
-  unfolding subtracted summed all number
-  subtracted-negated {c} h = go (checks-end f [] (b ∷ []) (gives (number f (not (b .negative)) (magnitude f b)))) h
+  pub difference-negated : {c : Number} → negated f b ≡ gives c → differenceAnswer f d a b ≡ sumAnswer f d a c
+  unfolding differenceAnswer sumAnswer all number
+  difference-negated {c} h = go (checks-end f [] (b ∷ []) (gives (number f (not (b .negative)) (magnitude f b)))) h
     where
-      go : {g : Given Number} → Checks f [] (b ∷ []) (gives (number f (not (b .negative)) (magnitude f b))) g → g ≡ gives c → subtracted f d a b ≡ summed f d a c
+      go : {g : Given Number} → Checks f [] (b ∷ []) (gives (number f (not (b .negative)) (magnitude f b))) g → g ≡ gives c → differenceAnswer f d a b ≡ sumAnswer f d a c
       go (not-admitted n) e = absurd (gives-not-refused (sym e))
       go (no-direction n m) e = absurd (gives-not-refused (sym e))
       go (not-member n m l) e = absurd (gives-not-refused (sym e))
@@ -63,7 +75,9 @@ module _ (f : Format) (d : ℕ) (a b : Number) where
           let in-format : member f c ≡ true = rw (← same) (member-made _ ok (signed-member ok i (not (b .negative)))) in
           let turned-sign : c .negative ≡ not (b .negative) = ap (λ (n : Number). n .negative) (sym same) in
           let turned-value : value f c ≡ negℤ (value f b) = rw (← same) (negated-value ok i) in
-          checked-same f d (a ∷ b ∷ []) (a ∷ c ∷ []) (rw (in-b, in-format)) (ap₂ (λ (s : Bool) (z : ℤ). roundedZ f (direction d) (zeroSign (direction d) (a .negative) s) (value f a +ℤ z)) (sym turned-sign) (sym turned-value))
+          checked-same f d (a ∷ b ∷ []) (a ∷ c ∷ []) (rw (in-b, in-format))
+          (ap₂ (λ (s : Bool) (z : ℤ). marked f (value f a +ℤ z) 1 (roundedZ f (direction d) (zeroSign (direction d) (a .negative) s) (value f a +ℤ z)))
+          (sym turned-sign) (sym turned-value))
 
 -- ---- zero and one
 -- u is 1, which is β ^ -Emin units: no format with Emin above 0 has it
@@ -95,14 +109,24 @@ module _ {f : Format} (ok : Admitted f) {u : Number} (o : One f u) where
       by zero e = absurd (omega (arith, one-size, no-magnitude f u e, pow-pos (ok .base-low) (belowZero (f .emin))))
       by (suc m) e = omega arith
 
+-- x itself, exact
+abbrev pub exactly : Number → Rounded
+exactly x = record { number = x; mark = Exact }
+
+pub exactly-marked : (f : Format) (x : Number) (N : ℤ) (D : ℕ) → value f x *ℤ pos D ≡ N → {g : Given Number} → g ≡ gives x → marked f N D g ≡ gives (exactly x)
+unfolding marked
+exactly-marked f x N D e h = rw h (ap (λ (t : Mark). gives (record { number = x; mark = t })) (mark-equal (value f x) N D e))
+
 module _ {f : Format} {d : ℕ} {x u : Number} (c : Checked f d x u) where
   -- but for a zero of another sign
-  pub summed-zero : u .significand ≡ 0 → (magnitude f x ≡ 0 → zeroSign (direction d) (x .negative) (u .negative) ≡ x .negative) → summed f d x u ≡ gives x
-  unfolding summed value
-  summed-zero z n =
+  pub sum-zero : u .significand ≡ 0 → (magnitude f x ≡ 0 → zeroSign (direction d) (x .negative) (u .negative) ≡ x .negative) → sumAnswer f d x u ≡ gives (exactly x)
+  unfolding sumAnswer value
+  sum-zero z n =
       let same : value f x +ℤ value f u ≡ value f x =
       rw (no-magnitude f u z) (sum-none (x .negative) (u .negative) (magnitude f x)) in
-      rw (call-passed f d x u c) (roundedZ-exact (c .admits) (direction d) (c .first) _ (value f x +ℤ value f u) same n)
+      call-passed f d x u c _
+      ∙ exactly-marked f x (value f x +ℤ value f u) 1 (times-one (value f x) ∙ sym same)
+      (roundedZ-exact (c .admits) (direction d) (c .first) _ (value f x +ℤ value f u) same n)
 
   -- the exact result has the sign and the magnitude of x
   module _ (o : One f u) where
@@ -113,20 +137,26 @@ module _ {f : Format} {d : ℕ} {x u : Number} (c : Checked f d x u) where
     unfolding value
     own = rw same
 
-    pub multiplied-one : multiplied f d x u ≡ gives x
-    unfolding multiplied roundedProduct
-    multiplied-one =
-        rw (call-passed f d x u c)
-        (rounded-exact (c .admits) (direction d) (c .first) _ _ (pow-pos (c .admits .base-low) (belowZero (f .emin)))
-        (rw (one-unit (c .admits) o, one-size (c .admits) o) (omega arith)) own (λ _. same))
+    -- N / D units that are ± |x| × D / D
+    itself : (n : ℕ) {D : ℕ} → 1 ≤ D → n ≡ magnitude f x * D
+        → marked f (signed (xor (x .negative) (u .negative)) n) D (rounded f (direction d) (xor (x .negative) (u .negative)) n D) ≡ gives (exactly x)
+    itself n {D} h e =
+        exactly-marked f x _ D (ap (λ (z : ℤ). z *ℤ pos D) (sym own) ∙ scale-signed (xor (x .negative) (u .negative)) (magnitude f x) D ∙ ap (signed (xor (x .negative) (u .negative))) (sym e))
+        (rounded-exact (c .admits) (direction d) (c .first) _ _ h e own (λ _. same))
 
-    pub divided-one : divided f d x u ≡ gives x
-    unfolding divided
-    divided-one =
+    pub product-one : productAnswer f d x u ≡ gives (exactly x)
+    unfolding productAnswer roundedProduct
+    product-one =
+        call-passed f d x u c _
+        ∙ ap (λ (z : ℤ). marked f z (f .base ^ belowZero (f .emin)) (roundedProduct f (direction d) x u)) (sym (product-signed f x u))
+        ∙ itself _ (pow-pos (c .admits .base-low) (belowZero (f .emin))) (rw (one-unit (c .admits) o, one-size (c .admits) o) (omega arith))
+
+    pub quotient-one : withoutDigits (quotientAnswer f d x u) ≡ gives (exactly x)
+    quotient-one =
         let some = one-some (c .admits) o in
-        rw (call-passed f d x u c, divisor-some (c .admits) (direction d) x u some)
-        (rounded-exact (c .admits) (direction d) (c .first) _ _ (divisor-positive (c .admits) u some)
-        (rw (one-unit (c .admits) o, one-size (c .admits) o) (omega arith)) own (λ _. same))
+        quotient-call f d x u ∙ call-passed f d x u c _
+        ∙ ap (marked f _ _) (divisor-some (c .admits) (direction d) x u some)
+        ∙ itself _ (divisor-positive (c .admits) u some) (rw (one-unit (c .admits) o, one-size (c .admits) o) (omega arith))
 
 module _ {f : Format} (ok : Admitted f) where
   -- Emax - Emin, for Emin at most 0

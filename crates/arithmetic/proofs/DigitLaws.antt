@@ -1,7 +1,7 @@
 -- The number of quotient digits, for every admitted format: none exactly where the dividend is zero or the first digit's place lies below
 -- Emin; at most p + 1, and p + 1 only where the first digit is 0; 1 for a number over itself; the digits counted, with what remains, are
 -- the quotient; and the mark is exact exactly where nothing remains.
-use Rattle.theory.proofs.Prelude.{ℕ, _≤_, _<_, _+_, _^_, _*_, _-_, _%_, _/_, true, false, Bool, xor, [], _∷_, inl, inr, _⊎_, _∙_, ap, _≡_, sym, refl, mul-pos, eq-of-mul-eq-mul-right, div-add-mod', mod-lt, cond, eqb, eqb-true, eqb-false, eq-eqb, ltZ, pos, natAbs, _-ℤ_, arith}
+use Rattle.theory.proofs.Prelude.{ℕ, _≤_, _<_, _+_, _^_, _*_, _-_, _%_, _/_, true, false, Bool, xor, [], _∷_, inl, inr, _⊎_, _∙_, ap, _≡_, sym, refl, mul-pos, eq-of-mul-eq-mul-right, cond, eqb, eqb-true, eqb-false, eq-eqb, ltZ, pos, natAbs, _-ℤ_, arith}
 use native.Mathlib.Nat.{mod-self}
 use Rattle.theory.specs.QuotientDigits.{digitsTaken, lacking, brought}
 use Rattle.theory.specs.declared.Mark.the-variants.{Exact}
@@ -13,13 +13,14 @@ use Rattle.theory.proofs.QuotientDigits.{Leads, Counted, brought-leads, leads-b
 use Rattle.format.proofs.Signed.{Upto, Under, lt-true, lt-false, make-lt}
 use Rattle.format.proofs.GivenLaws.{gives-same, gives-not-refused, gives-not-refused-at}
 use Rattle.arithmetic.specs.declared.CountedQuotient.{CountedQuotient}
-use Rattle.arithmetic.specs.Marked.{withoutMark, markedQuotient}
+use Rattle.arithmetic.specs.Marked.{markedQuotient}
 use Rattle.arithmetic.specs.Quotients.{withDigits, withoutDigits, fullSignificand, fullExponent, firstDigitPlace, quotientDigits, quotientAnswer}
 use Rattle.arithmetic.specs.Outcomes.{MarkedNumber}
-use Rattle.arithmetic.proofs.Prelude.{Format, Given, gives, refused, refusedAt, direction, checked, Number, Member, Admitted, positional, Rounded, aboveZero, belowZero, placeOf, magnitude, value, divided, pow-add, pow-pos, diff-parts, size-signed}
+use Rattle.arithmetic.proofs.Prelude.{Format, Given, gives, refused, refusedAt, direction, checked, Number, Member, Admitted, positional, Rounded, aboveZero, belowZero, placeOf, magnitude, value, pow-add, pow-pos, diff-parts, size-signed}
+use Rattle.number.proofs.CheckLaws.{then-checked}
 use Rattle.arithmetic.proofs.QuotientPlaces.{highPlace, lowPlace, places-apart}
-use Rattle.arithmetic.proofs.Calls.{Checked, divided-rounds, divided-some}
-use Rattle.arithmetic.proofs.MarkLaws.{digits-checked, quotient-unmarked, quotient-given, exact-where-wide, wide-where-exact}
+use Rattle.arithmetic.proofs.Calls.{Checked, quotient-some, quotient-rounds}
+use Rattle.arithmetic.proofs.MarkLaws.{exact-where-wide, wide-where-exact}
 
 -- how many places above Emin the first digit stands
 abbrev pub placesAbove : Format → (a b : Number) → ℕ
@@ -117,12 +118,6 @@ module _ {f : Format} (ok : Admitted f) {a b : Number} (i : Member f a) (j : Mem
       by (below-emin l) e = absurd (omega arith)
       by (some-taken h l) e = counted h
 
-  -- with what remains they are the quotient
-  pub digits-divide : let n = fullSignificand f a * f .base ^ (quotientDigits f a b - 1) in let m = fullSignificand f b in (n ≡ n / m * m + n % m) × (n % m < m)
-  digits-divide =
-      let n = fullSignificand f a * f .base ^ (quotientDigits f a b - 1) in
-      (sym (div-add-mod' n (fullSignificand f b)), mod-lt n divisor-some)
-
 -- one for a number over itself, where place 0 is not below Emin
 pub digits-self : {f : Format} → Admitted f → {a : Number} → Member f a → 1 ≤ a .significand → Upto (f .emin) (pos 0) → quotientDigits f a a ≡ 1
 digits-self {f} ok {a} i some l = by (digits-cases f a a)
@@ -201,22 +196,19 @@ module _ (f : Format) (d : ℕ) (a b : Number) {q : CountedQuotient} (e : quotie
   quotient-digits =
       let g = markedQuotient f (direction d) a b in
       let n = quotientDigits f a b in
-      digits-given n (checked f (d ∷ []) (a ∷ b ∷ []) g) (sym (digits-checked f n (d ∷ []) (a ∷ b ∷ []) g) ∙ e)
-
-  number-given : divided f d a b ≡ gives (q .number)
-  number-given = sym (quotient-unmarked f d a b) ∙ ap (λ (g : Given CountedQuotient). withoutMark (withoutDigits g)) e
+      digits-given n (checked f (d ∷ []) (a ∷ b ∷ []) g) (then-checked f (d ∷ []) (a ∷ b ∷ []) g _ ∙ e)
 
   some-divisor : 1 ≤ b .significand
-  some-divisor = divided-some f d a b number-given
+  some-divisor = quotient-some f d a b e
 
   passed : Checked f d a b
-  passed = divided-rounds f d a b some-divisor .passed number-given
+  passed = quotient-rounds f d a b some-divisor .passed (ap withoutDigits e)
 
   pub quotient-digits-most : q .digits ≤ f .digits + 1
   quotient-digits-most = rw quotient-digits (digits-most (passed .admits) (passed .first) (passed .second) some-divisor)
 
   given : MarkedNumber f (direction d) (signed (xor (a .negative) (b .negative)) (magnitude f a * f .base ^ belowZero (f .emin))) (magnitude f b * f .base ^ aboveZero (f .emin)) (record { number = q .number; mark = q .mark })
-  given = quotient-given f d a b (ap withoutDigits e)
+  given = quotient-rounds f d a b some-divisor .given (ap withoutDigits e)
 
   -- where digits were taken, the mark is exact exactly where nothing remains after the last of them
   pub exact-ends : 1 ≤ q .digits → q .mark ≡ Exact → fullSignificand f a * f .base ^ (q .digits - 1) % fullSignificand f b ≡ 0

@@ -1,18 +1,24 @@
 -- What the answer of the fraction says: n over m is ± N / D units, rounded; which refusal comes where; equal fractions are answered
 -- alike, and as the quotient of two numbers; a whole number over 1 comes out unchanged where it is a number of the format.
 use Rattle.theory.proofs.Prelude.{ℕ, _≤_, _<_, _+_, _^_, _*_, _-_, suc, zero, true, false, Bool, xor, [], _∷_, _∙_, ap, _≡_, sym, refl, pow-zero, mul-pos, mul-lt-mul-of-pos-right, mul-le-mul, zero-mul, eq-of-mul-eq-mul-right, arith, ℤ, pos, natAbs, negsuc, _*ℤ_, le-leb, lt-leb}
-use Rattle.arithmetic.proofs.Prelude.{all, _and_, unless, signed, isNegative, Direction, pow-add, pow-pos, pow-mono, pow-half, Format, admitted, highestPlace, Given, gives, refused, isDirection, direction, Admitted, admits, admitted-made, positional, Number, aboveZero, belowZero, member, placeOf, magnitude, value, greatest, number, delivered, checked, Checks, checked-passed, checks-end, Member, member-made, rounded, roundedFraction, divided, fractioned, wide-pow, never, and-left, and-made, unless-passed, unless-failed}
+use Rattle.arithmetic.proofs.Prelude.{all, _and_, unless, signed, isNegative, Direction, pow-add, pow-pos, pow-mono, pow-half, Format, admitted, highestPlace, Given, gives, refused, isDirection, direction, Admitted, admits, admitted-made, positional, Number, aboveZero, belowZero, member, placeOf, magnitude, value, greatest, number, delivered, checked, Checks, checked-passed, checks-end, Member, member-made, rounded, roundedFraction, Rounded, refusedAt, wide-pow, never, and-left, and-made, unless-passed, unless-failed}
 use Rattle.theory.specs.Wide.{Wide}
 use Rattle.theory.proofs.Round.{round-exact}
 use Rattle.theory.proofs.Monotone.{Same, round-same}
-use Rattle.theory.proofs.Integers.{below, parts-eq, scale-above, scale-below, size-scale, size-signed, own-sign, scale-signed}
+use Rattle.theory.specs.declared.Mark.{Mark}
+use Rattle.theory.specs.Marks.{mark}
+use Rattle.theory.proofs.Marks.{mark-same}
+use Rattle.theory.proofs.Integers.{times-one, below, parts-eq, scale-above, scale-below, size-scale, size-signed, own-sign, scale-signed}
 use Rattle.number.specs.Checks as checks
 use Rattle.number.proofs.Values.{number-magnitude, number-value, number-member}
-use Rattle.arithmetic.specs.Outcomes.{Outcome}
-use Rattle.arithmetic.proofs.Prepared.{parts-above, parts-below, no-magnitude, no-significand, divisor-positive, divisor-some, denominator-some, denominator-none}
-use Rattle.arithmetic.proofs.Outcome.{rounded-outcome}
+use Rattle.arithmetic.specs.Marked.{marked, markedFraction, fractionAnswer}
+use Rattle.arithmetic.specs.Quotients.{withoutDigits, quotientAnswer}
+use Rattle.arithmetic.specs.Outcomes.{MarkedOutcome}
+use Rattle.arithmetic.proofs.Prepared.{parts-above, parts-below, no-magnitude, no-significand, divisor-positive, divisor-some, denominator-some, denominator-none, fraction-signed}
+use Rattle.arithmetic.proofs.Outcome.{marked-outcome, rounded-outcome}
 use Rattle.arithmetic.proofs.Fractions.{at-place}
-use Rattle.arithmetic.proofs.Algebra.{xor-plus, reach}
+use Rattle.arithmetic.proofs.Calls.{quotient-call}
+use Rattle.arithmetic.proofs.Algebra.{exactly, exactly-marked, xor-plus, reach}
 
 -- ---- N and D
 abbrev pub over : Format → ℤ → ℕ
@@ -37,11 +43,12 @@ under-some : {f : Format} → Admitted f → {m : ℕ} → 1 ≤ m → 1 ≤ und
 under-some {f} ok h = mul-pos h (pow-pos (ok .base-low) (aboveZero (f .emin)))
 
 -- ---- which answer comes where: 1, 2, 4 (for 0 over 0 too), then the rounded fraction, or 5 where it is too large
-pub data Fractioned (f : Format) (d : ℕ) (n : ℤ) (m : ℕ) : Given Number → Type 0 where
-  not-admitted : admitted f ≡ false → Fractioned f d n m (refused 1)
-  no-direction : Admitted f → isDirection d ≡ false → Fractioned f d n m (refused 2)
-  zero-denominator : Admitted f → isDirection d ≡ true → m ≡ 0 → Fractioned f d n m (refused 4)
-  rounds : {r : Given Number} → Admitted f → isDirection d ≡ true → 1 ≤ m → Outcome f (direction d) (signed (isNegative n) (over f n)) (under f m) r → Fractioned f d n m r
+pub data FractionEnds (f : Format) (d : ℕ) (n : ℤ) (m : ℕ) : Given Rounded → Type 0 where
+  not-admitted : admitted f ≡ false → FractionEnds f d n m (refused 1)
+  no-direction : Admitted f → isDirection d ≡ false → FractionEnds f d n m (refused 2)
+  zero-denominator : Admitted f → isDirection d ≡ true → m ≡ 0 → FractionEnds f d n m (refused 4)
+  rounds : {r : Given Rounded} → Admitted f → isDirection d ≡ true → 1 ≤ m → MarkedOutcome f (direction d) (n *ℤ pos (f .base ^ belowZero (f .emin))) (under f m) r
+      → FractionEnds f d n m r
 
 pub only : (t : Bool) → t and true ≡ false → t ≡ false
 unfolding _and_
@@ -49,15 +56,15 @@ only true e = e
 only false e = e
 
 module _ (f : Format) (d : ℕ) (n : ℤ) where
-  passes : Admitted f → isDirection d ≡ true → (m : ℕ) → fractioned f d n m ≡ roundedFraction f (direction d) n m
-  unfolding fractioned all
+  passes : Admitted f → isDirection d ≡ true → (m : ℕ) → fractionAnswer f d n m ≡ markedFraction f (direction d) n m
+  unfolding fractionAnswer all
   passes ok k m = checked-passed f (d ∷ []) [] _ (admitted-made ok) (and-made k refl) refl
 
-  pub fractioned-is : (m : ℕ) → Fractioned f d n m (fractioned f d n m)
-  unfolding fractioned all
-  fractioned-is m = by m (checks-end f (d ∷ []) [] (roundedFraction f (direction d) n m))
+  pub fraction-ends : (m : ℕ) → FractionEnds f d n m (fractionAnswer f d n m)
+  unfolding fractionAnswer all marked
+  fraction-ends m = by m (checks-end f (d ∷ []) [] (markedFraction f (direction d) n m))
     where
-      by : (m : ℕ) {g : Given Number} → Checks f (d ∷ []) [] (roundedFraction f (direction d) n m) g → Fractioned f d n m g
+      by : (m : ℕ) {g : Given Rounded} → Checks f (d ∷ []) [] (markedFraction f (direction d) n m) g → FractionEnds f d n m g
       by m (checks.not-admitted h) = not-admitted h
       by m (checks.no-direction h k) = no-direction (admits f h) (only _ k)
       by m (checks.not-member h k l) = absurd (never l)
@@ -66,7 +73,7 @@ module _ (f : Format) (d : ℕ) (n : ℤ) where
           let ok = admits f h in
           let some : 1 ≤ suc m = omega arith in
           rw (denominator-some f (direction d) n some)
-          (rounds ok (and-left _ _ k) some (rounded-outcome ok (direction d) (isNegative n) (over f n) (under-some ok some)))
+          (rounds ok (and-left _ _ k) some (marked-outcome (rw (fraction-signed f n) at (rounded-outcome ok (direction d) (isNegative n) (over f n) (under-some ok some)))))
 
 -- ---- equal fractions are answered alike
 same-sign : (n k : ℤ) (m j : ℕ) → 1 ≤ m → 1 ≤ j → n *ℤ pos j ≡ k *ℤ pos m → isNegative n ≡ isNegative k
@@ -79,20 +86,42 @@ pub rounded-same : {f : Format} → Admitted f → (d : Direction) {s t : Bool} 
 unfolding rounded
 rounded-same {f} ok d {t = t} e h = rw e (ap (delivered f t) (round-same (positional ok) d t h))
 
+-- with their marks
+pub marked-same : {f : Format} → Admitted f → (d : Direction) {s t : Bool} {N D N′ D′ : ℕ} → s ≡ t → Same N D N′ D′
+    → marked f (signed s N) D (rounded f d s N D) ≡ marked f (signed t N′) D′ (rounded f d t N′ D′)
+unfolding marked
+marked-same {f} ok d {s} {t} {N} {D} {N′} {D′} e h = ap (marked f (signed s N) D) (rounded-same ok d e h) ∙ by (rounded f d t N′ D′)
+  where
+    by : (g : Given Number) → marked f (signed s N) D g ≡ marked f (signed t N′) D′ g
+    by (gives x) =
+        ap (λ (m : Mark). gives (record { number = x; mark = m })) (ap (λ (s : Bool). mark (value f x) (signed s N) D) e ∙ mark-same (value f x) t h)
+    by (refused n) = refl
+    by (refusedAt n i) = refl
+
 module _ (f : Format) (d : ℕ) where
   -- what holds after passed checks holds of what is given
-  pub checked-same : {x y : Given Number} → (Admitted f → x ≡ y) → checked f (d ∷ []) [] x ≡ checked f (d ∷ []) [] y
+  pub checked-same : {A : Type 0} {x y : Given A} → (Admitted f → x ≡ y) → checked f (d ∷ []) [] x ≡ checked f (d ∷ []) [] y
   unfolding checked
-  checked-same {x} {y} h = by (admitted f) refl
+  checked-same {x = x} {y = y} h = by (admitted f) refl
     where
       by : (t : Bool) → admitted f ≡ t → unless t (refused 1) (unless (all isDirection (d ∷ [])) (refused 2) (unless (all (member f) []) (refused 3) x))
           ≡ unless t (refused 1) (unless (all isDirection (d ∷ [])) (refused 2) (unless (all (member f) []) (refused 3) y))
       by true a = rw (h (admits f a))
       by false a = unless-failed _ _ refl ∙ sym (unless-failed _ _ refl)
 
-  pub fractioned-same : (n k : ℤ) {m j : ℕ} → 1 ≤ m → 1 ≤ j → n *ℤ pos j ≡ k *ℤ pos m → fractioned f d n m ≡ fractioned f d k j
-  unfolding fractioned
-  fractioned-same n k {m} {j} hm hj e =
+  -- a fraction whose denominator is not zero, or is
+  fraction-some : (n : ℤ) {m : ℕ} → 1 ≤ m
+      → markedFraction f (direction d) n m ≡ marked f (signed (isNegative n) (over f n)) (under f m) (rounded f (direction d) (isNegative n) (over f n) (under f m))
+  fraction-some n {m} h =
+      ap (λ (z : ℤ). marked f z (under f m) (roundedFraction f (direction d) n m)) (sym (fraction-signed f n)) ∙ ap (marked f _ (under f m)) (denominator-some f (direction d) n h)
+
+  fraction-none : (n : ℤ) {m : ℕ} → m ≡ 0 → markedFraction f (direction d) n m ≡ refused 4
+  unfolding marked
+  fraction-none n {m} h = ap (marked f _ (under f m)) (denominator-none f (direction d) n h)
+
+  pub fraction-same : (n k : ℤ) {m j : ℕ} → 1 ≤ m → 1 ≤ j → n *ℤ pos j ≡ k *ℤ pos m → fractionAnswer f d n m ≡ fractionAnswer f d k j
+  unfolding fractionAnswer
+  fraction-same n k {m} {j} hm hj e =
       checked-same
       (λ ok.
       let sizes : natAbs n * j ≡ natAbs k * m = sym (size-scale n j) ∙ ap natAbs e ∙ size-scale k m in
@@ -102,15 +131,14 @@ module _ (f : Format) (d : ℕ) where
         divisor′ = under-some ok hj;
         cross = omega (arith, ap (λ (x : ℕ). x * (f .base ^ belowZero (f .emin) * f .base ^ aboveZero (f .emin))) sizes);
       } in
-      denominator-some f (direction d) n hm ∙ rounded-same ok (direction d) (same-sign n k m j hm hj e) cross ∙ sym (denominator-some f (direction d) k hj))
+      fraction-some n hm ∙ marked-same ok (direction d) (same-sign n k m j hm hj e) cross ∙ sym (fraction-some k hj))
 
   -- both parts multiplied
-  pub fractioned-multiplied : (n : ℤ) (m c : ℕ) → 1 ≤ c → fractioned f d (n *ℤ pos c) (m * c) ≡ fractioned f d n m
-  unfolding fractioned
-  fractioned-multiplied n zero c h =
-      checked-same (λ ok. denominator-none f (direction d) (n *ℤ pos c) (zero-mul c) ∙ sym (denominator-none f (direction d) n refl))
-  fractioned-multiplied n (suc m) c h =
-      fractioned-same (n *ℤ pos c) n (mul-pos {m = suc m} {n = c} (omega arith) h) (omega arith)
+  pub fraction-multiplied : (n : ℤ) (m c : ℕ) → 1 ≤ c → fractionAnswer f d (n *ℤ pos c) (m * c) ≡ fractionAnswer f d n m
+  unfolding fractionAnswer
+  fraction-multiplied n zero c h = checked-same (λ ok. fraction-none (n *ℤ pos c) (zero-mul c) ∙ sym (fraction-none n refl))
+  fraction-multiplied n (suc m) c h =
+      fraction-same (n *ℤ pos c) n (mul-pos {m = suc m} {n = c} (omega arith) h) (omega arith)
       (parts-eq (n *ℤ pos c *ℤ pos (suc m)) (n *ℤ pos (suc m * c))
       (omega (
         arith,
@@ -163,13 +191,13 @@ module _ {f : Format} (ok : Admitted f) where
       by (suc n) e = omega arith
 
 module _ (f : Format) (d : ℕ) (a b : Number) where
-  checked-whole : member f a ≡ true → member f b ≡ true → (g : Given Number) → checked f (d ∷ []) (a ∷ b ∷ []) g ≡ checked f (d ∷ []) [] g
+  checked-whole : {A : Type 0} → member f a ≡ true → member f b ≡ true → (g : Given A) → checked f (d ∷ []) (a ∷ b ∷ []) g ≡ checked f (d ∷ []) [] g
   unfolding checked all _and_
   checked-whole h k g = rw (h, k, _and_)
 
-  pub fractioned-quotient : {n : ℤ} {m : ℕ} → Whole f a n → Whole f b (pos m) → 1 ≤ m → fractioned f d n m ≡ divided f d a b
-  unfolding fractioned divided
-  fractioned-quotient {n} {m} u v h =
+  pub fraction-quotient : {n : ℤ} {m : ℕ} → Whole f a n → Whole f b (pos m) → 1 ≤ m → fractionAnswer f d n m ≡ withoutDigits (quotientAnswer f d a b)
+  unfolding fractionAnswer
+  fraction-quotient {n} {m} u v h =
       checked-same f d
       (λ ok.
       let size-a = whole-size ok u in
@@ -186,14 +214,14 @@ module _ (f : Format) (d : ℕ) (a b : Number) where
           ap (λ (x : ℕ). x * (m * f .base ^ belowZero (f .emin))) size-a,
         );
       } in
-      denominator-some f (direction d) n h ∙ rounded-same ok (direction d) signs cross ∙ sym (divisor-some ok (direction d) a b some))
-      ∙ sym (checked-whole (u .member) (v .member) _)
+      fraction-some f d n h ∙ marked-same ok (direction d) signs cross ∙ ap (marked f _ _) (sym (divisor-some ok (direction d) a b some)))
+      ∙ sym (checked-whole (u .member) (v .member) _) ∙ sym (quotient-call f d a b)
 
 -- ---- a whole number over 1, in a format with Emin ≤ 0
--- r is the number n, by its value (n / β ^ Emin units) and by its record (the sign of n, and m × β ^ e = |n|)
-pub record Unchanged (f : Format) (n : ℤ) (r : Given Number) : Type 0 where
+-- r is the number n, exact, by its value (n / β ^ Emin units) and by its record (the sign of n, and m × β ^ e = |n|)
+pub record Unchanged (f : Format) (n : ℤ) (r : Given Rounded) : Type 0 where
   pub number : Number
-  pub is : r ≡ gives number
+  pub is : r ≡ gives (exactly number)
   pub member : member f number ≡ true
   pub value : value f number ≡ n *ℤ pos (f .base ^ belowZero (f .emin))
   pub sign : number .negative ≡ isNegative n
@@ -218,18 +246,18 @@ module _ {f : Format} (ok : Admitted f) (low : aboveZero (f .emin) ≡ 0) (d : �
       (omega (arith, ap (λ (v : ℕ). x .significand * v) powers, ap (λ (v : ℕ). v * B ^ belowZero (x .exponent)) e))
 
   -- a magnitude of the wide format is not rounded
-  whole-delivered : (n : ℤ) → Wide (f .base) (f .digits) (over f n) → fractioned f d n 1 ≡ delivered f (isNegative n) (over f n)
+  whole-rounded : (n : ℤ) → Wide (f .base) (f .digits) (over f n) → roundedFraction f (direction d) n 1 ≡ delivered f (isNegative n) (over f n)
   unfolding rounded
-  whole-delivered n w =
-      passes f d n ok k 1 ∙ denominator-some f (direction d) n (omega arith)
+  whole-rounded n w =
+      denominator-some f (direction d) n (omega arith)
       ∙ ap (delivered f (isNegative n))
       (round-exact (positional ok) (over f n) (under-some ok (omega arith)) (direction d) (isNegative n) (over f n) w (rw under-one (omega arith)))
 
-  too-large : (n : ℤ) → Wide (f .base) (f .digits) (over f n) → greatest f < over f n → fractioned f d n 1 ≡ refused 5
-  unfolding delivered
-  too-large n w l = whole-delivered n w ∙ unless-failed _ _ (lt-leb _ _ l)
+  too-large : (n : ℤ) → Wide (f .base) (f .digits) (over f n) → greatest f < over f n → fractionAnswer f d n 1 ≡ refused 5
+  unfolding delivered marked
+  too-large n w l = passes f d n ok k 1 ∙ ap (marked f _ (under f 1)) (whole-rounded n w ∙ unless-failed _ _ (lt-leb _ _ l))
 
-  pub unchanged : (n : ℤ) → Wide (f .base) (f .digits) (over f n) → over f n ≤ greatest f → Unchanged f n (fractioned f d n 1)
+  pub unchanged : (n : ℤ) → Wide (f .base) (f .digits) (over f n) → over f n ≤ greatest f → Unchanged f n (fractionAnswer f d n 1)
   unfolding delivered number
   unchanged n w l =
       let x : Number = number f (isNegative n) (over f n) in
@@ -239,7 +267,8 @@ module _ {f : Format} (ok : Admitted f) (low : aboveZero (f .emin) ≡ 0) (d : �
       number-value ok w (isNegative n) ∙ sym (scale-signed (isNegative n) (natAbs n) unit) ∙ ap (λ (z : ℤ). z *ℤ pos unit) (own-sign n) in
       record {
         number = x;
-        is = whole-delivered n w ∙ unless-passed _ _ (le-leb _ _ l);
+        is = passes f d n ok k 1
+            ∙ exactly-marked f x (n *ℤ pos unit) (under f 1) (rw under-one (times-one (value f x) ∙ units)) (whole-rounded n w ∙ unless-passed _ _ (le-leb _ _ l));
         member = member-made x ok i;
         value = units;
         sign = refl;
@@ -286,16 +315,16 @@ module _ {f : Format} (b : Binary31 f) where
       rw (over-is least, b .base) (rw power at (wide-pow {β = 2} (record { base = omega arith; digits = b .admits .digits-low }) (31 + belowZero (f .emin))))
 
   module _ (d : ℕ) (k : isDirection d ≡ true) where
-    pub numerator-unchanged : (n : ℤ) → natAbs n < 2 ^ 31 → Unchanged f n (fractioned f d n 1)
+    pub numerator-unchanged : (n : ℤ) → natAbs n < 2 ^ 31 → Unchanged f n (fractionAnswer f d n 1)
     numerator-unchanged n l = unchanged (b .admits) (b .low) d k n (small-wide n l) (small-within n l)
 
-    pub least-too-large : aboveZero (f .emax) ≡ 0 → fractioned f d least 1 ≡ refused 5
+    pub least-too-large : aboveZero (f .emax) ≡ 0 → fractionAnswer f d least 1 ≡ refused 5
     least-too-large e =
         let same : highestPlace f ≡ belowZero (f .emin) = omega (arith, highest) in
         too-large (b .admits) (b .low) d k least least-wide
         (rw (over-is least, greatest-is, same) (mul-lt-mul-of-pos-right {k = 2 ^ belowZero (f .emin)} (omega arith) (pow-pos {β = 2} (omega arith) (belowZero (f .emin)))))
 
-    pub least-unchanged : 1 ≤ aboveZero (f .emax) → Unchanged f least (fractioned f d least 1)
+    pub least-unchanged : 1 ≤ aboveZero (f .emax) → Unchanged f least (fractionAnswer f d least 1)
     least-unchanged h =
         let twice : 2 * 2 ^ belowZero (f .emin) ≤ 2 ^ highestPlace f =
         pow-half {β = 2} (omega arith) {i = belowZero (f .emin)} {j = highestPlace f} (omega (arith, highest)) in

@@ -1,8 +1,8 @@
 -- What an answer says of the exact result N / D units: a number that is given is in the format and has the rounded value, and
 -- refusal 5 is given exactly where the rounded magnitude is above the greatest number. An exact result that is a number of the
 -- format is given as it is, in every direction.
-use Rattle.theory.proofs.Prelude.{ℕ, _≤_, _<_, _*_, true, false, Bool, ⊎-elim, _∙_, ap, _≡_, sym, refl, pow-zero, lt-of-mul-lt-mul-right, arith, leb, ℤ, natAbs, le-leb, leb-true, leb-false}
-use Rattle.arithmetic.proofs.Prelude.{unless, Direction, signed, isNegative, roundZ, Format, Given, gives, refused, Admitted, positional, gives-same, Number, member, magnitude, value, greatest, number, delivered, Member, member-made, rounded, roundedZ, unless-passed, wide-pow, size-signed}
+use Rattle.theory.proofs.Prelude.{ℕ, _≤_, _<_, _*_, true, false, Bool, ⊎-elim, _∙_, ap, _≡_, sym, refl, subst, pow-zero, lt-of-mul-lt-mul-right, arith, leb, ℤ, natAbs, le-leb, leb-true, leb-false}
+use Rattle.arithmetic.proofs.Prelude.{unless, Direction, signed, isNegative, roundZ, Format, Given, gives, refused, Admitted, positional, gives-same, gives-not-refused, Number, member, magnitude, value, greatest, number, delivered, Member, member-made, rounded, roundedZ, unless-passed, wide-pow, size-signed}
 use Rattle.theory.specs.Signed.{signOr}
 use Rattle.theory.proofs.Integers.{either-sign, sign-or}
 use Rattle.theory.specs.Round.{round}
@@ -10,23 +10,31 @@ use Rattle.theory.specs.declared.Direction.the-variants.{TowardZero}
 use Rattle.theory.specs.Neighbours.{lowerQ, upperQ}
 use Rattle.theory.proofs.Neighbours.{lowerQ-le, upperQ-least}
 use Rattle.theory.proofs.Round.{round-wide, round-exact, round-cases}
+use Rattle.theory.proofs.Marks.{mark-multiplied}
 use Rattle.theory.proofs.Signed.{roundZ-size, roundZ-signed, toward-zero-size}
 use Rattle.number.proofs.Values.{member-wide, member-greatest, number-same, number-of, number-member, number-value}
-use Rattle.arithmetic.specs.Outcomes.{RoundedNumber, Outcome, given, too-large}
+use Rattle.arithmetic.specs.Marked.{marked}
+use Rattle.arithmetic.specs.Outcomes.{RoundedNumber, OutcomeOf, Outcome, MarkedOutcome, given, too-large}
 
-module _ {f : Format} {d : Direction} {N : ℤ} {D : ℕ} where
-  pub outcome-given : {r : Given Number} {x : Number} → Outcome f d N D r → r ≡ gives x → RoundedNumber f d N D x
-  outcome-given (given g) e = rw (gives-same e) at g
-  outcome-given (too-large h) e = absurd (let z : _≡_ {A = ℕ} 0 1 = cc in omega arith)
+module _ {A : Type 0} {f : Format} {d : Direction} {N : ℤ} {D : ℕ} {Right : A → Type 0} where
+  pub outcome-given : {r : Given A} {x : A} → OutcomeOf f d N D Right r → r ≡ gives x → Right x
+  outcome-given (given g) e = subst Right (gives-same e) g
+  outcome-given (too-large h) e = absurd (gives-not-refused (sym e))
 
-  pub outcome-refused : {r : Given Number} → Outcome f d N D r → r ≡ refused 5 → greatest f < natAbs (roundZ (f .base) (f .digits) d N D)
-  outcome-refused (given g) e = absurd (let z : _≡_ {A = ℕ} 0 1 = cc in omega arith)
+  pub outcome-refused : {r : Given A} → OutcomeOf f d N D Right r → r ≡ refused 5 → greatest f < natAbs (roundZ (f .base) (f .digits) d N D)
+  outcome-refused (given g) e = absurd (gives-not-refused e)
   outcome-refused (too-large h) e = h
 
   -- no other refusal is given
-  pub outcome-only : {r : Given Number} {n : ℕ} → Outcome f d N D r → r ≡ refused n → n ≡ 5
-  outcome-only (given g) e = absurd (let z : _≡_ {A = ℕ} 0 1 = cc in omega arith)
+  pub outcome-only : {r : Given A} {n : ℕ} → OutcomeOf f d N D Right r → r ≡ refused n → n ≡ 5
+  outcome-only (given g) e = absurd (gives-not-refused e)
   outcome-only (too-large h) e = cc
+
+-- with the mark, which is true of the exact result
+pub marked-outcome : {f : Format} {d : Direction} {N : ℤ} {D : ℕ} {g : Given Number} → Outcome f d N D g → MarkedOutcome f d N D (marked f N D g)
+unfolding marked
+marked-outcome {f} {N = N} {D = D} (given {x = x} r) = given (record { rounded = r; marked = refl; multiplied = mark-multiplied (value f x) N D })
+marked-outcome (too-large h) = too-large h
 
 module _ {f : Format} (a : Admitted f) (d : Direction) where
   pub rounded-outcome : (negative : Bool) (n : ℕ) {D : ℕ} → 1 ≤ D → Outcome f d (signed negative n) D (rounded f d negative n D)

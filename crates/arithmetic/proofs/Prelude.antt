@@ -21,6 +21,6 @@ pub use Rattle.number.proofs.CheckLaws.{checked-passed, checks-end}
 pub use Rattle.number.proofs.Negation.{signed-member, negated-value}
 pub use Rattle.rounding.specs.declared.Wide.{Wide}
 pub use Rattle.rounding.specs.declared.Rounding.{Rounding}
-unfoldable pub use Rattle.arithmetic.specs.Operations.{rounded, roundedZ, roundedProduct, roundedQuotient, roundedFraction, summed, subtracted, multiplied, divided, fractioned}
+unfoldable pub use Rattle.arithmetic.specs.Operations.{rounded, roundedZ, roundedProduct, roundedQuotient, roundedFraction}
 pub use Rattle.arithmetic.specs.Operations.{roundedSum, roundedDifference}
 pub use Rattle.arithmetic.specs.declared.Rounded.{Rounded}

@@ -1,8 +1,7 @@
--- The four operations, the fraction and the conversion: the checks of document 01 in their order, then the exact result in units of
--- β ^ Emin, rounded once.
+-- The four operations, the fraction and the conversion on what has passed the checks: the exact result in units of β ^ Emin, rounded once.
+-- The answers of the calls are these with their marks (`Marked`, `Quotients`).
 use Prim.Native.Nat.{ℕ, _*_, _^_}
 use mathlib.Core.Bool.{Bool, true, false, not, xor, cond, Bool·beq}
-use mathlib.Core.List.{[], _∷_}
 use lib.Dec.{eqb}
 use lib.IntN.{ℤ, natAbs, _+ℤ_, _-ℤ_}
 use Rattle.theory.specs.Round.{round}
@@ -10,12 +9,10 @@ use Rattle.theory.specs.declared.Direction.{Direction}
 use Rattle.theory.specs.declared.Direction.the-variants.{NearestEven, NearestAway, TowardZero, Upward, Downward}
 use Rattle.theory.specs.Signed.{isNegative, signOr}
 use Rattle.format.specs.declared.Format.{Format}
-use Rattle.format.specs.Directions.{direction}
 use Rattle.format.specs.Given.{Given, refused}
 use Rattle.number.specs.declared.Number.{Number}
 use Rattle.number.specs.Exponents.{aboveZero, belowZero}
 use Rattle.number.specs.Numbers.{magnitude, value, delivered}
-use Rattle.number.specs.Checks.{checked}
 
 -- ---- an exact result, rounded among the numbers of the wide format; refusal 5 above the greatest number of the format
 -- ± N / D units
@@ -68,28 +65,3 @@ roundedFraction f d n m =
 unfoldable pub roundedRecord : Format → Direction → Number → Given Number
 roundedRecord f d x =
     rounded f d (x .negative) (x .significand * f .base ^ aboveZero (x .exponent -ℤ f .emin)) (f .base ^ belowZero (x .exponent -ℤ f .emin))
-
--- ---- the public calls: refusals 1, 2 and 3 come first
--- the answer of sum
-unfoldable pub summed : Format → (d : ℕ) (a b : Number) → Given Number
-summed f d a b = checked f (d ∷ []) (a ∷ b ∷ []) (roundedSum f (direction d) a b)
-
--- the answer of difference
-unfoldable pub subtracted : Format → (d : ℕ) (a b : Number) → Given Number
-subtracted f d a b = checked f (d ∷ []) (a ∷ b ∷ []) (roundedDifference f (direction d) a b)
-
--- the answer of product
-unfoldable pub multiplied : Format → (d : ℕ) (a b : Number) → Given Number
-multiplied f d a b = checked f (d ∷ []) (a ∷ b ∷ []) (roundedProduct f (direction d) a b)
-
--- the answer of quotient
-unfoldable pub divided : Format → (d : ℕ) (a b : Number) → Given Number
-divided f d a b = checked f (d ∷ []) (a ∷ b ∷ []) (roundedQuotient f (direction d) a b)
-
--- the answer of fraction
-unfoldable pub fractioned : Format → (d : ℕ) (numerator : ℤ) (denominator : ℕ) → Given Number
-fractioned f d numerator denominator = checked f (d ∷ []) [] (roundedFraction f (direction d) numerator denominator)
-
--- the answer of convert
-unfoldable pub converted : Format → (d : ℕ) → Number → Given Number
-converted f d x = checked f (d ∷ []) [] (roundedRecord f (direction d) x)

@@ -19,13 +19,20 @@ pub record RoundedNumber (f : Format) (d : Direction) (N : ℤ) (D : ℕ) (x : N
   pub value : value f x ≡ roundZ (f .base) (f .digits) d N D
   pub within : natAbs (roundZ (f .base) (f .digits) d N D) ≤ greatest f
 
--- that number, or 5 exactly where the rounded magnitude is above the greatest number
-pub data Outcome (f : Format) (d : Direction) (N : ℤ) (D : ℕ) : Given Number → Type 0 where
-  given : {x : Number} → RoundedNumber f d N D x → Outcome f d N D (gives x)
-  too-large : greatest f < natAbs (roundZ (f .base) (f .digits) d N D) → Outcome f d N D (refused 5)
-
 -- that number with its mark, which multiplied out is true of N / D
 pub record MarkedNumber (f : Format) (d : Direction) (N : ℤ) (D : ℕ) (r : Rounded) : Type 0 where
   pub rounded : RoundedNumber f d N D (r .number)
   pub marked : r .mark ≡ mark (value f (r .number)) N D
   pub multiplied : MultipliedOut (value f (r .number)) N D (r .mark)
+
+-- what is given is right, or it is 5, exactly where the rounded magnitude is above the greatest number
+pub data OutcomeOf {A : Type 0} (f : Format) (d : Direction) (N : ℤ) (D : ℕ) (Right : A → Type 0) : Given A → Type 0 where
+  given : {x : A} → Right x → OutcomeOf f d N D Right (gives x)
+  too-large : greatest f < natAbs (roundZ (f .base) (f .digits) d N D) → OutcomeOf f d N D Right (refused 5)
+
+-- of a number, and of a number with its mark
+abbrev pub Outcome : Format → Direction → ℤ → ℕ → Given Number → Type 0
+Outcome f d N D g = OutcomeOf f d N D (RoundedNumber f d N D) g
+
+abbrev pub MarkedOutcome : Format → Direction → ℤ → ℕ → Given Rounded → Type 0
+MarkedOutcome f d N D g = OutcomeOf f d N D (MarkedNumber f d N D) g

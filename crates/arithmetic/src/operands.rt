@@ -1,39 +1,22 @@
-// Numbers of a format as numbers of the wide format, and back.
+// The powers beside an exact result, and results of the wide format as numbers of the format.
 use crate::Rounded;
 use crate::RoundedAnswer;
 use format::Prepared;
-use number::Number;
 use number::NumberAnswer;
 use number::delivery::deliver;
-use number::exponents::place_of;
 use rounding::Rounding;
-use rounding::Wide;
 ghost use mathlib.Core.Path.{_≡_};
 ghost use Rattle.theory.specs.Wide.{Canonical};
 ghost use Rattle.number.specs.Numbers.{delivered};
 ghost use Rattle.number.specs.Answers.{numberGiven};
-ghost use Rattle.number.specs.Checks.{Usable, Operand};
+ghost use Rattle.number.specs.Checks.{Usable};
 ghost use Rattle.wide.specs.Operand.{sizeOf};
-ghost use Rattle.arithmetic.specs.Operands.{wideOf};
 ghost use Rattle.arithmetic.specs.Marked.{roundedGiven, withMark, withoutMark};
 
 // The powers of the base beside an exact result: it is taken base ^ up times and divided by base ^ down.
 pub struct Powers {
     pub up: u32,
     pub down: u32,
-}
-
-// x, with the place that its exponent has above emin.
-pub fn wide_of(prepared: Prepared, x: Number) -> Wide
-    requires { ⌜ Operand prepared x ⌝ }
-    ensures { λ r. ⌜ r ≡ wideOf (prepared .format) x ⌝ }
-{
-    let place = place_of(prepared, x);
-    Wide {
-        negative: x.negative,
-        significand: x.significand,
-        place: place,
-    }
 }
 
 // A result as a number of the format, with its mark, or refusal 5 above the greatest number.
@@ -52,7 +35,7 @@ pub fn deliver_wide(prepared: Prepared, result: Rounding) -> RoundedAnswer
     }
 }
 
-// The number without its mark: the three-step sum, its check, the routes and the pattern calls go on with it.
+// The number without its mark: the three-step sum, its check and the routes go on with it.
 pub fn unmarked(answer: RoundedAnswer) -> NumberAnswer
     ensures { λ r. ⌜ numberGiven r ≡ withoutMark (roundedGiven answer) ⌝ }
 {

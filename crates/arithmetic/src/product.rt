@@ -2,14 +2,12 @@
 use crate::RoundedAnswer;
 use crate::operands::Powers;
 use crate::operands::deliver_wide;
-use crate::operands::unmarked;
 use format::Format;
 use format::Preparation;
 use format::Prepared;
 use format::admission::prepare;
 use format::directions::direction_of;
 use number::Number;
-use number::NumberAnswer;
 use number::checks::with_direction;
 use number::checks::with_number;
 use number::exponents::above_zero;
@@ -17,10 +15,8 @@ use number::exponents::below_zero;
 use number::exponents::place_of;
 use theory::Direction;
 ghost use mathlib.Core.Path.{_≡_};
-ghost use Rattle.number.specs.Answers.{numberGiven};
 ghost use Rattle.number.specs.Checks.{Operands};
 ghost use Rattle.arithmetic.specs.Operands.{productPowers};
-ghost use Rattle.arithmetic.specs.Operations.{roundedProduct};
 ghost use Rattle.arithmetic.specs.Marked.{roundedGiven, markedProduct, productAnswer};
 
 // The powers beside the product of the significands.
@@ -55,10 +51,11 @@ fn marked_product(prepared: Prepared, direction: Direction, a: Number, b: Number
     deliver_wide(prepared, rounding)
 }
 
-// The same without the mark. It calls the wide product itself: a function with two callers stays one, and what calls it is inlined.
-pub fn multiply(prepared: Prepared, direction: Direction, a: Number, b: Number) -> NumberAnswer
+// The same for the calls on patterns and the routes. It calls the wide product itself: a function with two callers stays one, and what
+// calls it is inlined.
+pub fn multiply(prepared: Prepared, direction: Direction, a: Number, b: Number) -> RoundedAnswer
     requires { ⌜ Operands prepared a b ⌝ }
-    ensures { λ r. ⌜ numberGiven r ≡ roundedProduct (prepared .format) direction a b ⌝ }
+    ensures { λ r. ⌜ roundedGiven r ≡ markedProduct (prepared .format) direction a b ⌝ }
 {
     let scale = prepared.scale;
     let negative = a.negative != b.negative;
@@ -72,7 +69,7 @@ pub fn multiply(prepared: Prepared, direction: Direction, a: Number, b: Number) 
         w.up,
         w.down,
     );
-    unmarked(deliver_wide(prepared, rounding))
+    deliver_wide(prepared, rounding)
 }
 
 // a * b. Refuses 1, 2, 3, 5.

@@ -4,7 +4,6 @@ use crate::QuotientAnswer;
 use crate::RoundedAnswer;
 use crate::operands::Powers;
 use crate::operands::deliver_wide;
-use crate::operands::unmarked;
 use format::Format;
 use format::Preparation;
 use format::Prepared;
@@ -12,7 +11,6 @@ use format::Refusal;
 use format::admission::prepare;
 use format::directions::direction_of;
 use number::Number;
-use number::NumberAnswer;
 use number::checks::with_direction;
 use number::checks::with_number;
 use number::exponents::above_zero;
@@ -20,11 +18,9 @@ use number::exponents::below_zero;
 use number::exponents::place_of;
 use theory::Direction;
 ghost use mathlib.Core.Path.{_≡_};
-ghost use Rattle.number.specs.Answers.{numberGiven};
 ghost use Rattle.number.specs.Checks.{Operands};
 ghost use Rattle.arithmetic.specs.Operands.{quotientPowers};
-ghost use Rattle.arithmetic.specs.Operations.{roundedQuotient};
-ghost use Rattle.arithmetic.specs.Marked.{roundedGiven};
+ghost use Rattle.arithmetic.specs.Marked.{roundedGiven, markedQuotient};
 ghost use Rattle.arithmetic.specs.Quotients.{quotientGiven, withDigits, countedQuotient, quotientAnswer};
 
 // The same answer, with the number of digits.
@@ -86,14 +82,14 @@ fn counted_quotient(
     with_digits(deliver_wide(prepared, rounding), counted.digits)
 }
 
-// The same without the mark and the digits. It calls the wide quotient itself, as `multiply` the wide product.
-pub fn divide(prepared: Prepared, direction: Direction, a: Number, b: Number) -> NumberAnswer
+// The same without the digits, for the calls on patterns. It calls the wide quotient itself, as `multiply` the wide product.
+pub fn divide(prepared: Prepared, direction: Direction, a: Number, b: Number) -> RoundedAnswer
     requires { ⌜ Operands prepared a b ⌝ }
-    ensures { λ r. ⌜ numberGiven r ≡ roundedQuotient (prepared .format) direction a b ⌝ }
+    ensures { λ r. ⌜ roundedGiven r ≡ markedQuotient (prepared .format) direction a b ⌝ }
 {
     let divisor = b.significand;
     if divisor == 0 {
-        return NumberAnswer::Refused(Refusal::DivisorZero);
+        return RoundedAnswer::Refused(Refusal::DivisorZero);
     }
     let scale = prepared.scale;
     let negative = a.negative != b.negative;
@@ -108,7 +104,7 @@ pub fn divide(prepared: Prepared, direction: Direction, a: Number, b: Number) ->
         w.down,
     );
     let rounding = counted.rounding;
-    unmarked(deliver_wide(prepared, rounding))
+    deliver_wide(prepared, rounding)
 }
 
 // a / b. Refuses 1, 2, 3, 4, 5.

@@ -95,7 +95,7 @@ pub fn marked_sum(prepared: Prepared, direction: Direction, a: Number, b: Number
 }
 
 // a - b, in a format that was prepared. Refuses 5.
-fn marked_difference(
+pub fn marked_difference(
     prepared: Prepared,
     direction: Direction,
     a: Number,
@@ -107,7 +107,7 @@ fn marked_difference(
     marked_sum(prepared, direction, a, with_sign(b, !b.negative))
 }
 
-// The same without their marks.
+// The same without their marks, for the three-step sum, its check and the routes.
 pub fn add(prepared: Prepared, direction: Direction, a: Number, b: Number) -> NumberAnswer
     requires { ⌜ Operands prepared a b ⌝ }
     ensures { λ r. ⌜ numberGiven r ≡ roundedSum (prepared .format) direction a b ⌝ }

@@ -16,9 +16,11 @@ ghost use mathlib.Core.Bool.{true, cond};
 ghost use Prim.Native.Nat.{_+_, _-_, _<_, _^_};
 ghost use lib.Dec.{eqb};
 ghost use Rattle.format.specs.Published.{binary32};
+ghost use Rattle.number.specs.declared.Number.{Number};
+ghost use Rattle.number.specs.declared.NumberAnswer.the-variants.{Value};
 ghost use Rattle.number.specs.Answers.{numberGiven, patternGiven};
 ghost use Rattle.number.specs.Numbers.{member};
-ghost use Rattle.binary32.specs.Patterns.{fieldOf, finite, numberRead, patternRead, patternOf, patternWritten};
+ghost use Rattle.binary32.specs.Patterns.{fieldOf, finite, numberRead, patternRead, patternOf, patternWritten, answerWritten};
 
 // Eight bits of the exponent.
 pub fn field_of(pattern: u32) -> u32
@@ -82,5 +84,16 @@ pub fn write_pattern(x: Number) -> PatternAnswer
     match with_number(Preparation::Ready(prepared_binary32()), x) {
         Preparation::Refused(why) => PatternAnswer::Refused(why),
         Preparation::Ready(_) => PatternAnswer::Written(pattern_of(x)),
+    }
+}
+
+// An answer with its number written.
+pub fn write_answer(answer: NumberAnswer) -> PatternAnswer
+    requires { ⌜ ((x : Number) → answer ≡ Value x → member binary32 x ≡ true) ⌝ }
+    ensures { λ r. ⌜ patternGiven r ≡ answerWritten (numberGiven answer) ⌝ }
+{
+    match answer {
+        NumberAnswer::Refused(why) => PatternAnswer::Refused(why),
+        NumberAnswer::Value(x) => PatternAnswer::Written(pattern_of(x)),
     }
 }

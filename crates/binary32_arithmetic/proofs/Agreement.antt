@@ -16,7 +16,8 @@ use Rattle.binary32.proofs.StandardRound.{answered}
 use Rattle.binary32.proofs.StandardSum.{ieee-sum, ieee-difference}
 use Rattle.binary32.proofs.StandardProduct.{ieee-product, ieee-quotient}
 use Rattle.binary32.proofs.StandardPatterns.{patterned, patterned-written}
-use Rattle.binary32_arithmetic.specs.Calls.{Operation, Sum, Difference, Product, Quotient, roundedBy, onPatterns, patternCall}
+use Rattle.binary32_arithmetic.specs.Calls.{Operation, Sum, Difference, Product, Quotient, patternAlone, patternCall}
+use Rattle.binary32_arithmetic.proofs.CallLaws.{roundedBy, alone}
 
 module _ (a b : ℕ) (ha : finite a ≡ true) (hb : finite b ≡ true) where
   abbrev x : Float
@@ -27,19 +28,19 @@ module _ (a b : ℕ) (ha : finite a ≡ true) (hb : finite b ≡ true) where
 
   -- the operation of format 2 on what was read, where it is that of lib.Ieee with the result z
   called : (operation : Operation) (z : Float) → T (fits ieee.binary32 z)
-      → answered z ≡ roundedBy operation binary32 NearestEven (numberRead a) (numberRead b) → patternCall operation 0 a b ≡ patterned z
-  unfolding patternCall onPatterns isDirection direction
-  called operation z h e = unless-passed _ _ refl ∙ unless-passed _ _ (and-made ha hb) ∙ sym (patterned-written z h ∙ ap answerWritten e)
+      → answered z ≡ roundedBy operation binary32 NearestEven (numberRead a) (numberRead b) → patternAlone (patternCall operation 0 a b) ≡ patterned z
+  unfolding patternCall isDirection direction
+  called operation z h e = ap patternAlone (unless-passed _ _ refl) ∙ alone operation NearestEven a b ∙ unless-passed _ _ (and-made ha hb) ∙ sym (patterned-written z h ∙ ap answerWritten e)
 
-  pub sum-agrees : patternCall Sum 0 a b ≡ patterned (add ieee.binary32 x y)
+  pub sum-agrees : patternAlone (patternCall Sum 0 a b) ≡ patterned (add ieee.binary32 x y)
   unfolding roundedZ rounded
   sum-agrees = called Sum (add ieee.binary32 x y) (add-fits ieee.binary32 x y) (ieee-sum a b (read-made a ha) (read-made b hb))
 
-  pub difference-agrees : patternCall Difference 0 a b ≡ patterned (sub ieee.binary32 x y)
+  pub difference-agrees : patternAlone (patternCall Difference 0 a b) ≡ patterned (sub ieee.binary32 x y)
   unfolding roundedZ rounded
   difference-agrees = called Difference (sub ieee.binary32 x y) (sub-fits ieee.binary32 x y) (ieee-difference a b (read-made a ha) (read-made b hb))
 
-  pub product-agrees : patternCall Product 0 a b ≡ patterned (mul ieee.binary32 x y)
+  pub product-agrees : patternAlone (patternCall Product 0 a b) ≡ patterned (mul ieee.binary32 x y)
   unfolding roundedProduct rounded
   product-agrees =
       called Product (mul ieee.binary32 x y) (mul-fits ieee.binary32 x y)
@@ -47,7 +48,7 @@ module _ (a b : ℕ) (ha : finite a ≡ true) (hb : finite b ≡ true) where
       ∙ ap (λ (n : ℕ). rounded binary32 NearestEven (xor (numberRead a .negative) (numberRead b .negative)) n (2 ^ 149))
       (sym (mul-one (magnitude binary32 (numberRead a) * magnitude binary32 (numberRead b)))))
 
-  pub quotient-agrees : 1 ≤ magnitude binary32 (numberRead b) → patternCall Quotient 0 a b ≡ patterned (div ieee.binary32 x y)
+  pub quotient-agrees : 1 ≤ magnitude binary32 (numberRead b) → patternAlone (patternCall Quotient 0 a b) ≡ patterned (div ieee.binary32 x y)
   unfolding roundedQuotient rounded
   quotient-agrees h =
       called Quotient (div ieee.binary32 x y) (div-fits ieee.binary32 x y)

@@ -23,8 +23,9 @@ use Rattle.binary32.specs.Patterns.{fieldOf, finite, magnitudeRead, numberRead,
 use Rattle.binary32.proofs.Fields.{binary32-limits, endless-field}
 use Rattle.binary32.proofs.RoundTrips.{read-made, read-magnitude}
 use Rattle.binary32.proofs.PatternOrder.{magnitude-most}
-use Rattle.binary32_arithmetic.specs.Calls.{Sum, onPatterns}
-use Rattle.binary32_arithmetic.specs.Slices.{passes}
+use Rattle.binary32_arithmetic.specs.Calls.{Sum}
+use Rattle.binary32_arithmetic.specs.Slices.{entrySum, passes}
+use Rattle.binary32_arithmetic.proofs.CallLaws.{alone}
 
 -- ---- a value that is not above the greatest number is not too large when it is rounded
 module _ {f : Format} (ok : Admitted f) (d : Direction) (z : ℤ) (h : natAbs z ≤ greatest f) where
@@ -60,11 +61,10 @@ module _ (d : Direction) (a b : ℕ) (ha : a % 2 ^ 31 < 254 * 2 ^ 23) (hb : b % 
   unfolding value
   size n h = size-signed (numberRead n .negative) (magnitude binary32 (numberRead n)) ∙ read-magnitude n (read-made n (half-finite n h))
 
-  pub halves-pass : gives tt ≡ passes (onPatterns Sum d a b)
-  unfolding onPatterns
+  pub halves-pass : gives tt ≡ passes (entrySum d a b)
   halves-pass =
       let z = value binary32 (numberRead a) +ℤ value binary32 (numberRead b) in
       let within : natAbs z ≤ greatest binary32 =
       omega (arith, sum-size (value binary32 (numberRead a)) (value binary32 (numberRead b)), size a ha, size b hb, half-size a ha, half-size b hb) in
       let g = small-given binary32-limits d z within (roundedSum binary32 d (numberRead a) (numberRead b)) (roundedZ-outcome binary32-limits d _ z) in
-      sym (ap passes (unless-passed _ _ (and-made (half-finite a ha) (half-finite b hb)) ∙ ap answerWritten (g .1)))
+      sym (ap passes (alone Sum d a b ∙ unless-passed _ _ (and-made (half-finite a ha) (half-finite b hb)) ∙ ap answerWritten (g .1)))

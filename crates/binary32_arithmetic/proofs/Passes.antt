@@ -1,23 +1,17 @@
 -- What the passes over two slices compute: the first refused entry, and one sum more.
-use Rattle.theory.proofs.Prelude.{ℕ, _≤_, _<_, _+_, suc, zero, true, false, Bool, [], _∷_, List, _++_, append-assoc, ap, _≡_, sym, refl, add-one, arith, length, getD, drop, take, set, drop-cons, drop-length}
+use Rattle.theory.proofs.Prelude.{ℕ, _≤_, _<_, _+_, suc, zero, false, [], _∷_, List, _++_, append-assoc, ap, _≡_, sym, refl, add-one, arith, length, getD, drop, take, set, drop-cons, drop-length}
 use lib.ListN.{List·getD-eq-default}
 use lib.Seq.{take-suc-set}
 use Rattle.theory.specs.declared.Direction.{Direction}
 use Rattle.theory.proofs.Lists.{first-is, first-none}
 use Rattle.format.specs.Given.{Given, gives, refused, refusedAt}
 use Rattle.format.proofs.GivenLaws.{gives-not-refused, gives-not-refused-at}
-use Rattle.binary32_arithmetic.specs.Calls.{Sum, onPatterns}
-use Rattle.theory.specs.Tests.{_and_, unless}
-use Rattle.format.specs.Published.{binary32}
-use Rattle.arithmetic.specs.Operations.{roundedSum}
-use Rattle.arithmetic.specs.Marked.{markedSum, withoutMark}
-use Rattle.arithmetic.proofs.Prepared.{marked-number}
-use Rattle.binary32.specs.Patterns.{finite, numberRead, answerWritten}
+use Rattle.binary32_arithmetic.specs.Calls.{Sum, onPatterns, patternAlone}
 use Rattle.theory.specs.declared.Mark.{Mark}
 use Rattle.theory.specs.declared.Mark.the-variants.{Exact, Low, High}
 use Rattle.theory.specs.Marks.{inexact}
-use Rattle.arithmetic.specs.declared.Rounded.{Rounded}
-use Rattle.binary32_arithmetic.specs.Slices.{passes, isRefused, entries, firstRefused, written, sums, markedEntry, inexactIn, inexactEntries}
+use Rattle.binary32_arithmetic.specs.declared.MarkedPattern.{MarkedPattern}
+use Rattle.binary32_arithmetic.specs.Slices.{entrySum, entryWritten, passes, isRefused, entries, firstRefused, written, sums, inexactIn, inexactEntries}
 
 -- ---- an entry, passed or refused
 pub passed-entry : (g : Given ℕ) → passes g ≡ gives tt → isRefused g ≡ false
@@ -38,7 +32,7 @@ entries-length d (x ∷ a) [] e = absurd (omega (arith, e))
 entries-length d (x ∷ a) (y ∷ b) e = ap suc (entries-length d a b (omega (arith, e)))
 
 pub entry-at : (d : Direction) (a b : List ℕ) → length a ≡ length b → (i : ℕ) → i < length a
-    → getD (entries d a b) i (gives 0) ≡ onPatterns Sum d (getD a i 0) (getD b i 0)
+    → getD (entries d a b) i (gives 0) ≡ entrySum d (getD a i 0) (getD b i 0)
 unfolding entries
 entry-at d [] b e i h = absurd (omega arith)
 entry-at d (x ∷ a) [] e i h = absurd (omega (arith, e))
@@ -57,7 +51,7 @@ refused-nowhere es b = rw (first-none isRefused (gives 0) es b, List·getD-eq-de
 
 -- ---- the second pass
 module _ (d : Direction) (i : ℕ) (a b : List ℕ) (h : i < length a) (e : length a ≡ length b) where
-  pub sums-step : sums d (drop i a) (drop i b) ≡ written (onPatterns Sum d (getD a i 0) (getD b i 0)) ∷ sums d (drop (i + 1) a) (drop (i + 1) b)
+  pub sums-step : sums d (drop i a) (drop i b) ≡ written (entrySum d (getD a i 0) (getD b i 0)) ∷ sums d (drop (i + 1) a) (drop (i + 1) b)
   unfolding sums entries
   sums-step = let k : i < length b = omega arith in rw (add-one, drop-cons a i 0, drop-cons b i 0)
 
@@ -70,7 +64,7 @@ sums-end d i a b e = rw (drop-end i a e)
 
 -- the entries written so far, and then the sums of the rest
 pub written-step : (d : Direction) (i v : ℕ) (a b out : List ℕ) → i < length a → length a ≡ length b → length a ≡ length out →
-    v ≡ written (onPatterns Sum d (getD a i 0) (getD b i 0)) →
+    v ≡ written (entrySum d (getD a i 0) (getD b i 0)) →
     take (i + 1) (set out i v) ++ sums d (drop (i + 1) a) (drop (i + 1) b) ≡ take i out ++ sums d (drop i a) (drop i b)
 written-step d i v a b out h e g q =
     rw (sums-step d i a b h e, add-one, take-suc-set out i v (omega arith), append-assoc, q)
@@ -78,7 +72,7 @@ written-step d i v a b out h e g q =
 -- the entries that are not exact so far, and then those of the rest
 module _ (d : Direction) (i : ℕ) (a b : List ℕ) where
   pub inexact-step : i < length a → length a ≡ length b → inexactEntries d (drop i a) (drop i b)
-      ≡ inexactIn (markedEntry d (getD a i 0) (getD b i 0)) + inexactEntries d (drop (i + 1) a) (drop (i + 1) b)
+      ≡ inexactIn (onPatterns Sum d (getD a i 0) (getD b i 0)) + inexactEntries d (drop (i + 1) a) (drop (i + 1) b)
   unfolding inexactEntries
   inexact-step h e = let k : i < length b = omega arith in rw (add-one, drop-cons a i 0, drop-cons b i 0)
 
@@ -86,7 +80,7 @@ module _ (d : Direction) (i : ℕ) (a b : List ℕ) where
   unfolding inexactEntries
   inexact-end e = rw (drop-end i a e)
 
-pub inexact-most : (g : Given Rounded) → inexactIn g ≤ 1
+pub inexact-most : (g : Given MarkedPattern) → inexactIn g ≤ 1
 inexact-most (gives x) = by (x .mark)
   where
     by : (t : Mark) → inexact t ≤ 1
@@ -96,12 +90,13 @@ inexact-most (gives x) = by (x .mark)
 inexact-most (refused n) = omega arith
 inexact-most (refusedAt n i) = omega arith
 
--- without its mark an entry's sum is that of the patterns
-pub marked-written : (d : Direction) (a b : ℕ) → answerWritten (withoutMark (markedEntry d a b)) ≡ onPatterns Sum d a b
-unfolding markedEntry onPatterns unless
-marked-written d a b = by (finite a and finite b)
-  where
-    by : (t : Bool) → answerWritten (withoutMark (unless t (refused 9) (markedSum binary32 d (numberRead a) (numberRead b))))
-        ≡ unless t (refused 9) (answerWritten (roundedSum binary32 d (numberRead a) (numberRead b)))
-    by true = ap answerWritten (marked-number binary32 _ 1 (roundedSum binary32 d (numberRead a) (numberRead b)))
-    by false = refl
+-- an entry as it is written: its pattern, and 1 where it is not exact
+pub written-pattern : (g : Given MarkedPattern) → entryWritten g .pattern ≡ written (patternAlone g)
+written-pattern (gives x) = refl
+written-pattern (refused n) = refl
+written-pattern (refusedAt n i) = refl
+
+pub written-count : (g : Given MarkedPattern) → inexact (entryWritten g .mark) ≡ inexactIn g
+written-count (gives x) = refl
+written-count (refused n) = refl
+written-count (refusedAt n i) = refl

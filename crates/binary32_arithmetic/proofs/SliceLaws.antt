@@ -14,13 +14,15 @@ use Rattle.format.specs.Published.{binary32}
 use Rattle.number.specs.Numbers.{value}
 use Rattle.number.specs.declared.Number.{Number}
 use Rattle.arithmetic.specs.Operations.{roundedSum}
-use Rattle.arithmetic.specs.Marked.{markedSum, marked}
+use Rattle.arithmetic.specs.Marked.{marked}
 use Rattle.arithmetic.specs.Outcomes.{Outcome, given, too-large}
 use Rattle.arithmetic.proofs.Outcome.{roundedZ-outcome}
 use Rattle.binary32.proofs.Fields.{binary32-limits}
 use Rattle.binary32.specs.Patterns.{finite, numberRead, patternValue, patternOf, answerWritten}
-use Rattle.binary32_arithmetic.specs.Calls.{Sum, onPatterns}
-use Rattle.binary32_arithmetic.specs.Slices.{isRefused, answerAt, written, entries, firstRefused, sums, slicesAnswer, markedEntry, inexactIn, inexactEntries, entryOf, Sums, Inexact, none, exact, more, SameLengths, Ends, lengths-differ, no-direction, refused-entry, all-written}
+use Rattle.binary32_arithmetic.specs.declared.MarkedPattern.{MarkedPattern}
+use Rattle.binary32_arithmetic.specs.Calls.{Sum, roundedWritten, patternAlone, onPatterns}
+use Rattle.binary32_arithmetic.proofs.CallLaws.{alone}
+use Rattle.binary32_arithmetic.specs.Slices.{entrySum, isRefused, answerAt, written, entries, firstRefused, sums, slicesAnswer, inexactIn, inexactEntries, entryOf, Sums, Inexact, none, exact, more, SameLengths, Ends, lengths-differ, no-direction, refused-entry, all-written}
 use Rattle.theory.proofs.Integers.{times-one}
 use Rattle.theory.proofs.Marks.{inexact-counted}
 use Rattle.arithmetic.proofs.Results.{sum-member}
@@ -35,9 +37,9 @@ data Entry : Given ℕ → Type 0 where
   not-finite : Entry (refused 9)
   above-greatest : Entry (refused 5)
 
-entry-ends : (d : Direction) (x y : ℕ) → Entry (onPatterns Sum d x y)
-unfolding onPatterns unless
-entry-ends d x y = by-finite (finite x and finite y)
+entry-ends : (d : Direction) (x y : ℕ) → Entry (entrySum d x y)
+unfolding unless
+entry-ends d x y = subst Entry (sym (alone Sum d x y)) (by-finite (finite x and finite y))
   where
     v : ℤ
     v = value binary32 (numberRead x) +ℤ value binary32 (numberRead y)
@@ -50,7 +52,7 @@ entry-ends d x y = by-finite (finite x and finite y)
     by-finite true = by-outcome (roundedZ-outcome binary32-limits d _ v)
     by-finite false = not-finite
 
-pub entry-refusals : (d : Direction) (x y : ℕ) {k : ℕ} → onPatterns Sum d x y ≡ refused k → (k ≡ 9) ⊎ (k ≡ 5)
+pub entry-refusals : (d : Direction) (x y : ℕ) {k : ℕ} → entrySum d x y ≡ refused k → (k ≡ 9) ⊎ (k ≡ 5)
 entry-refusals d x y {k} h = by (entry-ends d x y) h
   where
     by : {g : Given ℕ} → Entry g → g ≡ refused k → (k ≡ 9) ⊎ (k ≡ 5)
@@ -88,17 +90,20 @@ module _ (d : Direction) (a b : List ℕ) (e : length a ≡ length b) where
 -- ---- marks
 -- of an entry that is written, 1 is counted exactly where it is not the exact sum
 module _ (d : Direction) (x y : ℕ) where
-  pub entry-counted : {n : ℕ} → onPatterns Sum d x y ≡ gives n
-      → ((inexactIn (markedEntry d x y) ≡ 0) × (patternValue n ≡ patternValue x +ℤ patternValue y))
-      ⊎ ((inexactIn (markedEntry d x y) ≡ 1) × (¬ (patternValue n ≡ patternValue x +ℤ patternValue y)))
-  unfolding onPatterns markedEntry unless marked
+  pub entry-counted : {n : ℕ} → entrySum d x y ≡ gives n
+      → ((inexactIn (onPatterns Sum d x y) ≡ 0) × (patternValue n ≡ patternValue x +ℤ patternValue y))
+      ⊎ ((inexactIn (onPatterns Sum d x y) ≡ 1) × (¬ (patternValue n ≡ patternValue x +ℤ patternValue y)))
+  unfolding onPatterns unless marked
   entry-counted {n} h = by-read (finite x and finite y) refl h
     where
       Counted : ℕ → ℕ → Type 0
       Counted c n = ((c ≡ 0) × (patternValue n ≡ patternValue x +ℤ patternValue y)) ⊎ ((c ≡ 1) × (¬ (patternValue n ≡ patternValue x +ℤ patternValue y)))
 
-      by-sum : finite x and finite y ≡ true → (g : Given Number) → roundedSum binary32 d (numberRead x) (numberRead y) ≡ g → answerWritten g ≡ gives n
-          → Counted (inexactIn (marked binary32 (value binary32 (numberRead x) +ℤ value binary32 (numberRead y)) 1 g)) n
+      sum : Given Number → Given MarkedPattern
+      sum g = roundedWritten (marked binary32 (value binary32 (numberRead x) +ℤ value binary32 (numberRead y)) 1 g)
+
+      by-sum : finite x and finite y ≡ true → (g : Given Number) → roundedSum binary32 d (numberRead x) (numberRead y) ≡ g → patternAlone (sum g) ≡ gives n
+          → Counted (inexactIn (sum g)) n
       by-sum e (gives z) k w =
           let r = reads (patternOf z) (written-read z (sum-member binary32-limits d (numberRead x) (numberRead y) k)) in
           let written : n ≡ patternOf z = sym (gives-same w) in
@@ -109,8 +114,8 @@ module _ (d : Direction) (x y : ℕ) where
       by-sum e (refused m) k w = absurd (gives-not-refused (sym w))
       by-sum e (refusedAt m i) k w = absurd (gives-not-refused-at (sym w))
 
-      by-read : (t : Bool) → finite x and finite y ≡ t → unless t (refused 9) (answerWritten (roundedSum binary32 d (numberRead x) (numberRead y))) ≡ gives n
-          → Counted (inexactIn (unless t (refused 9) (markedSum binary32 d (numberRead x) (numberRead y)))) n
+      by-read : (t : Bool) → finite x and finite y ≡ t → patternAlone (unless t (refused 9) (sum (roundedSum binary32 d (numberRead x) (numberRead y)))) ≡ gives n
+          → Counted (inexactIn (unless t (refused 9) (sum (roundedSum binary32 d (numberRead x) (numberRead y))))) n
       by-read true e k = by-sum e (roundedSum binary32 d (numberRead x) (numberRead y)) refl k
       by-read false e k = absurd (gives-not-refused (sym k))
 
@@ -125,7 +130,7 @@ module _ (d : Direction) (a b : List ℕ) (e : length a ≡ length b) where
   upto zero l s = record { count = 0; inexact = none; rest = omega arith }
   upto (suc n) l s =
       let u = upto n (omega arith) (λ i k. s i (omega arith)) in
-      let t : inexactEntries d (drop n a) (drop n b) ≡ inexactIn (markedEntry d (getD a n 0) (getD b n 0)) + inexactEntries d (drop (suc n) a) (drop (suc n) b) =
+      let t : inexactEntries d (drop n a) (drop n b) ≡ inexactIn (onPatterns Sum d (getD a n 0) (getD b n 0)) + inexactEntries d (drop (suc n) a) (drop (suc n) b) =
       rw add-one at (inexact-step d n a b (omega arith) e) in
       ⊎-elim
       (λ k. record { count = u .count; inexact = exact (u .inexact) (k .1); rest = omega (arith, u .rest, t, k .0) })

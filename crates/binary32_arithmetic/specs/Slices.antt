@@ -9,20 +9,18 @@ use lib.IntN.{_+ℤ_}
 use Rattle.theory.specs.Tests.{_and_, unless}
 use Rattle.theory.specs.Lists.{firstWhere}
 use Rattle.theory.specs.declared.Direction.{Direction}
+use Rattle.theory.specs.declared.Mark.the-variants.{Exact}
 use Rattle.theory.specs.Marks.{inexact}
 use Rattle.format.specs.Directions.{isDirection, direction}
 use Rattle.format.specs.Given.{Given, gives, refused, refusedAt, _then_}
-use Rattle.format.specs.Published.{binary32}
 use Rattle.format.specs.Refusals.{refusalNumber}
-use Rattle.arithmetic.specs.declared.Rounded.{Rounded}
-use Rattle.arithmetic.specs.Marked.{markedSum, withoutMark}
-use Rattle.binary32.specs.Patterns.{finite, numberRead, patternValue, answerWritten}
-use Rattle.binary32_arithmetic.specs.Calls.{Sum, onPatterns}
+use Rattle.binary32.specs.Patterns.{patternValue}
+use Rattle.binary32_arithmetic.specs.Calls.{Sum, onPatterns, patternAlone}
+use Rattle.binary32_arithmetic.specs.declared.MarkedPattern.{MarkedPattern}
 use Rattle.binary32_arithmetic.specs.declared.SliceAnswer.{SliceAnswer}
 use Rattle.binary32_arithmetic.specs.declared.SliceAnswer.the-variants as answer
 use Rattle.binary32_arithmetic.specs.declared.Examined.{Examined}
 use Rattle.binary32_arithmetic.specs.declared.Examined.the-variants as examined
-use Rattle.binary32_arithmetic.specs.declared.WrittenEntry.{WrittenEntry}
 
 -- the answer of sum_slices in the papers' terms
 abbrev pub slicesGiven : SliceAnswer → Given ℕ
@@ -36,6 +34,10 @@ examinedGiven examined.Passed = gives tt
 examinedGiven (examined.RefusedAt why index) = refusedAt (refusalNumber why) index
 
 -- ---- an entry by itself
+-- the sum of two patterns, without its mark
+abbrev pub entrySum : Direction → (x y : ℕ) → Given ℕ
+entrySum d x y = patternAlone (onPatterns Sum d x y)
+
 -- without its pattern
 abbrev pub passes : Given ℕ → Given Unit
 passes (gives n) = gives tt
@@ -63,7 +65,7 @@ written (refusedAt number index) = 0
 unfoldable pub entries : Direction → (a b : List ℕ) → List (Given ℕ)
 entries d [] b = []
 entries d (x ∷ a) [] = []
-entries d (x ∷ a) (y ∷ b) = onPatterns Sum d x y ∷ entries d a b
+entries d (x ∷ a) (y ∷ b) = entrySum d x y ∷ entries d a b
 
 -- the refusal of the first entry that is refused, with its index
 unfoldable pub firstRefused : List (Given ℕ) → Given Unit
@@ -74,12 +76,8 @@ unfoldable pub sums : Direction → (a b : List ℕ) → List ℕ
 sums d a b = map written (entries d a b)
 
 -- ---- marks
--- the sum of the numbers of two patterns, with its mark
-unfoldable pub markedEntry : Direction → (x y : ℕ) → Given Rounded
-markedEntry d x y = unless (finite x and finite y) (refused 9) (markedSum binary32 d (numberRead x) (numberRead y))
-
--- 1 for a number that is not exact
-abbrev pub inexactIn : Given Rounded → ℕ
+-- 1 for a sum that is not exact
+abbrev pub inexactIn : Given MarkedPattern → ℕ
 inexactIn (gives x) = inexact (x .mark)
 inexactIn (refused number) = 0
 inexactIn (refusedAt number index) = 0
@@ -88,7 +86,7 @@ inexactIn (refusedAt number index) = 0
 unfoldable pub inexactEntries : Direction → (a b : List ℕ) → ℕ
 inexactEntries d [] b = 0
 inexactEntries d (x ∷ a) [] = 0
-inexactEntries d (x ∷ a) (y ∷ b) = inexactIn (markedEntry d x y) + inexactEntries d a b
+inexactEntries d (x ∷ a) (y ∷ b) = inexactIn (onPatterns Sum d x y) + inexactEntries d a b
 
 -- ---- the call
 -- the answer of sum_slices: the lengths (11), the direction (2), 9 and 5 entry by entry, then how many entries are not exact
@@ -107,7 +105,7 @@ slicesWritten (refusedAt number index) new old = old
 -- ---- in the words of document 01
 -- the sum of the two entries with index i
 abbrev pub entryOf : Direction → (a b : List ℕ) (i : ℕ) → Given ℕ
-entryOf d a b i = onPatterns Sum d (getD a i 0) (getD b i 0)
+entryOf d a b i = entrySum d (getD a i 0) (getD b i 0)
 
 -- the entries below n are not refused, and `sums` holds the sum of each
 abbrev pub Sums : Direction → (a b : List ℕ) (n : ℕ) → Type 0
@@ -141,5 +139,7 @@ pub data Ends (d : ℕ) (a b out : List ℕ) (r : Given ℕ) : Type 0 where
       → Ends d a b out r
 
 -- ---- for inner functions: an entry as it is written
-abbrev pub entryWritten : Given Rounded → WrittenEntry
-entryWritten g = record { pattern = written (answerWritten (withoutMark g)); inexact = inexactIn g }
+abbrev pub entryWritten : Given MarkedPattern → MarkedPattern
+entryWritten (gives x) = x
+entryWritten (refused number) = record { pattern = 0; mark = Exact }
+entryWritten (refusedAt number index) = record { pattern = 0; mark = Exact }

@@ -3,12 +3,17 @@ pub mod operations;
 pub mod slices;
 
 use format::Refusal;
-use number::Number;
-use theory::Direction;
+use theory::Mark;
 
-// What a call on two patterns is given: its direction and the numbers of the patterns, or why it is refused.
-pub enum CallRead {
-    Ready(Direction, Number, Number),
+// A result as a pattern, and its mark against the exact result.
+pub struct MarkedPattern {
+    pub pattern: u32,
+    pub mark: Mark,
+}
+
+// What a call on two patterns answers.
+pub enum MarkedPatternAnswer {
+    Written(MarkedPattern),
     Refused(Refusal),
 }
 
@@ -23,10 +28,4 @@ pub enum SliceAnswer {
 pub enum Examined {
     Passed,
     RefusedAt(Refusal, usize),
-}
-
-// An entry as it is written, and 1 where it is not exact.
-pub struct WrittenEntry {
-    pub pattern: u32,
-    pub inexact: usize,
 }

@@ -1,12 +1,12 @@
 // Two slices of patterns summed entry by entry into a third. The first pass looks for a refused entry, the second writes.
 use crate::Examined;
+use crate::MarkedPattern;
+use crate::MarkedPatternAnswer;
 use crate::SliceAnswer;
-use crate::WrittenEntry;
-use arithmetic::RoundedAnswer;
+use crate::operations::write_rounded;
 use arithmetic::sum::add;
 use arithmetic::sum::marked_sum;
 use binary32::finite::are_finite;
-use binary32::patterns::pattern_of;
 use binary32::patterns::read_finite;
 use binary32::prepared::prepared_binary32;
 use format::Refusal;
@@ -23,15 +23,9 @@ ghost use lib.ListN.{length};
 ghost use Rattle.theory.specs.Tests.{_and_};
 ghost use Rattle.format.specs.Directions as directions;
 ghost use Rattle.format.specs.Given.{verdictGiven};
-ghost use mathlib.Core.Bool.{true};
 ghost use Rattle.theory.specs.Marks.{inexact};
-ghost use Rattle.format.specs.Published.{binary32};
-ghost use Rattle.number.specs.Numbers.{member};
-ghost use Rattle.arithmetic.specs.declared.Rounded.{Rounded};
-ghost use Rattle.arithmetic.specs.declared.RoundedAnswer.the-variants.{Value};
-ghost use Rattle.arithmetic.specs.Marked.{roundedGiven};
 ghost use Rattle.binary32_arithmetic.specs.Calls.{onPatterns, Sum};
-ghost use Rattle.binary32_arithmetic.specs.Slices.{slicesGiven, examinedGiven, passes, entries, firstRefused, sums, entryWritten, markedEntry, inexactEntries, slicesAnswer, slicesWritten};
+ghost use Rattle.binary32_arithmetic.specs.Slices.{slicesGiven, examinedGiven, entrySum, passes, entries, firstRefused, sums, entryWritten, inexactEntries, slicesAnswer, slicesWritten};
 
 // Is the pattern's magnitude at most half the greatest number? Its exponent field is below 254.
 fn is_half(pattern: u32) -> bool
@@ -51,7 +45,7 @@ fn are_halves(a: u32, b: u32) -> bool
 
 // Is an entry refused? Two magnitudes of at most half the greatest number are not.
 fn examine(direction: Direction, a: u32, b: u32) -> Verdict
-    ensures { λ r. ⌜ verdictGiven r ≡ passes (onPatterns Sum direction a b) ⌝ }
+    ensures { λ r. ⌜ verdictGiven r ≡ passes (entrySum direction a b) ⌝ }
 {
     if are_halves(a, b) {
         return Verdict::Passed;
@@ -81,43 +75,26 @@ fn inexact_count(mark: Mark) -> usize
     }
 }
 
-// A sum written, with its mark; nothing where it is refused.
-fn write_entry(answer: RoundedAnswer) -> WrittenEntry
-    requires { ⌜ ((x : Rounded) → answer ≡ Value x → member binary32 (x .number) ≡ true) ⌝ }
-    ensures { λ r. ⌜ r ≡ entryWritten (roundedGiven answer) ⌝ }
+// The sum of two entries, as it is written; no entry is refused where this is called.
+fn sum_entry(direction: Direction, a: u32, b: u32) -> MarkedPattern
+    ensures { λ r. ⌜ r ≡ entryWritten (onPatterns Sum direction a b) ⌝ }
 {
-    match answer {
-        RoundedAnswer::Refused(_) => WrittenEntry {
-            pattern: 0,
-            inexact: 0,
-        },
-        RoundedAnswer::Value(rounded) => {
-            let number = rounded.number;
-            let mark = rounded.mark;
-            WrittenEntry {
-                pattern: pattern_of(number),
-                inexact: inexact_count(mark),
-            }
-        }
-    }
-}
-
-fn sum_entry(direction: Direction, a: u32, b: u32) -> WrittenEntry
-    ensures { λ r. ⌜ r ≡ entryWritten (markedEntry direction a b) ⌝ }
-{
-    let none = WrittenEntry {
+    let none = MarkedPattern {
         pattern: 0,
-        inexact: 0,
+        mark: Mark::Exact,
     };
     if !are_finite(a, b) {
         return none;
     }
-    write_entry(marked_sum(
+    match write_rounded(marked_sum(
         prepared_binary32(),
         direction,
         read_finite(a),
         read_finite(b),
-    ))
+    )) {
+        MarkedPatternAnswer::Refused(_) => none,
+        MarkedPatternAnswer::Written(entry) => entry,
+    }
 }
 
 // The first pass.
@@ -146,8 +123,9 @@ fn write_sums(direction: Direction, a: &[u32], b: &[u32], out: &mut [u32]) -> us
     let mut done = 0;
     while done < a.len() {
         let entry = sum_entry(direction, a[done], b[done]);
+        let mark = entry.mark;
         out[done] = entry.pattern;
-        inexact += entry.inexact;
+        inexact += inexact_count(mark);
         done += 1;
     }
     inexact

@@ -1,6 +1,6 @@
 // The strips of a boundary summed from the first on, each step a three-step sum, on binary32 patterns.
-pub mod small;
-pub mod steps;
+mod small;
+mod steps;
 pub mod sum;
 
 use format::Refusal;

@@ -15,6 +15,7 @@ use binary32_arithmetic::operations::pattern_difference;
 use binary32_arithmetic::operations::pattern_product;
 use binary32_arithmetic::operations::pattern_quotient;
 use binary32_arithmetic::operations::pattern_sum;
+use binary32_arithmetic::operations::without_mark;
 use binary32_arithmetic::slices::sum_slices;
 use binary64::patterns::read_binary64;
 use binary64::patterns::write_binary64;
@@ -23,7 +24,7 @@ use decimal32::writing::write_decimal32;
 ghost use mathlib.Core.Path.{_≡_};
 ghost use Rattle.format.specs.Directions as directions;
 ghost use Rattle.binary32.specs.Patterns.{patternRead, patternWritten};
-ghost use Rattle.binary32_arithmetic.specs.Calls.{patternCall, Sum, Difference, Product, Quotient};
+ghost use Rattle.binary32_arithmetic.specs.Calls.{patternAlone, patternCall, Sum, Difference, Product, Quotient};
 ghost use Rattle.binary32_arithmetic.specs.Slices.{sums, slicesAnswer, slicesWritten};
 ghost use Rattle.binary64.specs.Patterns.{binary64Read, binary64Written};
 ghost use Rattle.decimal32.specs.Patterns.{decimal32Read, decimal32Written};
@@ -80,33 +81,33 @@ pub extern "C" fn zurkeb_write_binary64(x: CNumber) -> Pattern64Out
 // a + b. Refuses 2, 9, 5.
 #[no_mangle]
 pub extern "C" fn zurkeb_pattern_sum(a: u32, b: u32, direction: u32) -> u64
-    ensures { λ r. ⌜ r ≡ patternOut (patternCall Sum direction a b) ⌝ }
+    ensures { λ r. ⌜ r ≡ patternOut (patternAlone (patternCall Sum direction a b)) ⌝ }
 {
-    pattern_out(pattern_sum(direction, a, b))
+    pattern_out(without_mark(pattern_sum(direction, a, b)))
 }
 
 // a - b. Refuses 2, 9, 5.
 #[no_mangle]
 pub extern "C" fn zurkeb_pattern_difference(a: u32, b: u32, direction: u32) -> u64
-    ensures { λ r. ⌜ r ≡ patternOut (patternCall Difference direction a b) ⌝ }
+    ensures { λ r. ⌜ r ≡ patternOut (patternAlone (patternCall Difference direction a b)) ⌝ }
 {
-    pattern_out(pattern_difference(direction, a, b))
+    pattern_out(without_mark(pattern_difference(direction, a, b)))
 }
 
 // a * b. Refuses 2, 9, 5.
 #[no_mangle]
 pub extern "C" fn zurkeb_pattern_product(a: u32, b: u32, direction: u32) -> u64
-    ensures { λ r. ⌜ r ≡ patternOut (patternCall Product direction a b) ⌝ }
+    ensures { λ r. ⌜ r ≡ patternOut (patternAlone (patternCall Product direction a b)) ⌝ }
 {
-    pattern_out(pattern_product(direction, a, b))
+    pattern_out(without_mark(pattern_product(direction, a, b)))
 }
 
 // a / b. Refuses 2, 9, 4, 5.
 #[no_mangle]
 pub extern "C" fn zurkeb_pattern_quotient(a: u32, b: u32, direction: u32) -> u64
-    ensures { λ r. ⌜ r ≡ patternOut (patternCall Quotient direction a b) ⌝ }
+    ensures { λ r. ⌜ r ≡ patternOut (patternAlone (patternCall Quotient direction a b)) ⌝ }
 {
-    pattern_out(pattern_quotient(direction, a, b))
+    pattern_out(without_mark(pattern_quotient(direction, a, b)))
 }
 
 // a + b entry by entry into out. Refuses 11, 2, and 9 and 5 with the index of the first refused entry; a refused call leaves out

@@ -3,12 +3,17 @@ use Prim.Native.Nat.{ℕ}
 use mathlib.Core.Bool.{true, false}
 use mathlib.Core.List.{List, [], _∷_}
 use lib.IntN.{ℤ, pos, negsuc}
+use Rattle.theory.specs.declared.Mark.{Mark}
+use Rattle.theory.specs.declared.Mark.the-variants.{Exact, Low, High}
 use Rattle.format.specs.declared.Format.{Format}
 use Rattle.format.specs.Given.{Given, gives, refused}
 use Rattle.number.specs.declared.Number.{Number}
 use Rattle.units.specs.Places.{firstPlace, lastPlace, leastPlace}
 use Rattle.units.specs.Neighbours.{predecessorOf, successorOf}
-use Rattle.arithmetic.specs.Operations.{summed, divided}
+use Rattle.arithmetic.specs.declared.Rounded.{Rounded}
+use Rattle.arithmetic.specs.declared.CountedQuotient.{CountedQuotient}
+use Rattle.arithmetic.specs.Marked.{sumAnswer}
+use Rattle.arithmetic.specs.Quotients.{quotientAnswer}
 use Rattle.rump.specs.Routes.{ufpTowardZero}
 use Rattle.fast_two_sum.specs.declared.Steps.{Steps}
 use Rattle.fast_two_sum.specs.Triples.{distance}
@@ -33,12 +38,21 @@ plus m e = record { negative = false; significand = m; exponent = e }
 abbrev pub minus : (m : ℕ) (e : ℤ) → Number
 minus m e = record { negative = true; significand = m; exponent = e }
 
+-- a number with its mark, and a quotient with its digits besides
+abbrev pub rounded : Number → Mark → Given Rounded
+rounded x mark = gives (record { number = x; mark = mark })
+
+abbrev pub counted : Number → Mark → (digits : ℕ) → Given CountedQuotient
+counted x mark digits = gives (record { number = x; mark = mark; digits = digits })
+
 abbrev pub triple : (x z y : Number) → Steps
 triple x z y = record { x = x; z = z; y = y }
 
--- ---- what a call gives, of either kind, or a distance
+-- ---- what a call gives, of each kind, or a distance
 pub data Result : Type 0 where
   one : Given Number → Result
+  sum : Given Rounded → Result
+  quotient : Given CountedQuotient → Result
   three : Given Steps → Result
   off : ℕ → Result
 
@@ -50,6 +64,14 @@ pub record Row : Type 0 where
 infix 70 _is_
 abbrev pub _is_ : (call paper : Given Number) → Row
 call is paper = record { call = one call; paper = one paper }
+
+infix 70 _sums-to_
+abbrev pub _sums-to_ : (call paper : Given Rounded) → Row
+call sums-to paper = record { call = sum call; paper = sum paper }
+
+infix 70 _divides-to_
+abbrev pub _divides-to_ : (call paper : Given CountedQuotient) → Row
+call divides-to paper = record { call = quotient call; paper = quotient paper }
 
 infix 70 _steps_
 abbrev pub _steps_ : (call paper : Given Steps) → Row
@@ -78,16 +100,16 @@ rows =
     -- D: 99,900,000 has no successor: 5
     ∷ successorOf D (plus 999 (pos 5)) is refused 5
     -- D: 99,900,000 + 99 toward zero is 99,900,000; up is 5
-    ∷ summed D 2 (plus 999 (pos 5)) (plus 990 (negsuc 0)) is gives (plus 999 (pos 5))
-    ∷ summed D 3 (plus 999 (pos 5)) (plus 990 (negsuc 0)) is refused 5
+    ∷ sumAnswer D 2 (plus 999 (pos 5)) (plus 990 (negsuc 0)) sums-to rounded (plus 999 (pos 5)) Low
+    ∷ sumAnswer D 3 (plus 999 (pos 5)) (plus 990 (negsuc 0)) sums-to refused 5
     -- D: 99,900,000 + 50,000 in direction 0 is a tie: 5. With 49,900 it is 99,900,000
-    ∷ summed D 0 (plus 999 (pos 5)) (plus 500 (pos 2)) is refused 5
-    ∷ summed D 0 (plus 999 (pos 5)) (plus 499 (pos 2)) is gives (plus 999 (pos 5))
+    ∷ sumAnswer D 0 (plus 999 (pos 5)) (plus 500 (pos 2)) sums-to refused 5
+    ∷ sumAnswer D 0 (plus 999 (pos 5)) (plus 499 (pos 2)) sums-to rounded (plus 999 (pos 5)) Low
     -- β = 2, p = 1: 2 + 1 in direction 0 is 4
-    ∷ summed (nines 2 1) 0 (plus 1 (pos 1)) (plus 1 (pos 0)) is gives (plus 1 (pos 2))
+    ∷ sumAnswer (nines 2 1) 0 (plus 1 (pos 1)) (plus 1 (pos 0)) sums-to rounded (plus 1 (pos 2)) High
     -- β = 3, p = 1: 1 ÷ 2 in direction 0 is 2/3, down 1/3
-    ∷ divided (nines 3 1) 0 (plus 1 (pos 0)) (plus 2 (pos 0)) is gives (plus 2 (negsuc 0))
-    ∷ divided (nines 3 1) 4 (plus 1 (pos 0)) (plus 2 (pos 0)) is gives (plus 1 (negsuc 0))
+    ∷ quotientAnswer (nines 3 1) 0 (plus 1 (pos 0)) (plus 2 (pos 0)) divides-to counted (plus 2 (negsuc 0)) High 2
+    ∷ quotientAnswer (nines 3 1) 4 (plus 1 (pos 0)) (plus 2 (pos 0)) divides-to counted (plus 1 (negsuc 0)) Low 2
     -- β = 10, p = 3, Emin = -3, Emax = 3: figure 1 gives 1 for 1. With Emin = -2 it is refused, by 8
     ∷ ufpTowardZero (threes (negsuc 2)) (plus 100 (negsuc 1)) is gives (plus 100 (negsuc 1))
     ∷ ufpTowardZero (threes (negsuc 1)) (plus 100 (negsuc 1)) is refused 8

@@ -1,6 +1,6 @@
 // The three-step sum (FastTwoSum) of two numbers of a binary format, and its check.
 pub mod check;
-pub mod entry;
+mod entry;
 pub mod sum;
 
 use format::Refusal;

@@ -9,7 +9,7 @@ ghost use Rattle.lines.specs.Digits.{glyph, digitOf};
 pub const LETTERS: [u8; 16] = *b"0123456789abcdef";
 
 // The lowest hexadecimal digit of a number.
-pub fn letter(n: u32) -> u8
+fn letter(n: u32) -> u8
     ensures { λ r. ⌜ r ≡ glyph (n % 16) ⌝ }
 {
     LETTERS[(n % 16) as usize]

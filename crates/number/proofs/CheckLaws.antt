@@ -9,7 +9,7 @@ use Rattle.format.specs.declared.Preparation.{Preparation}
 use Rattle.format.specs.declared.Preparation.the-variants.{Ready, Refused}
 use Rattle.format.specs.declared.Refusal.{Refusal}
 use Rattle.format.specs.declared.Refusal.the-variants.{FormatNotAdmitted, NoSuchDirection, NumberNotInFormat}
-use Rattle.format.specs.Given.{Given, gives, refused}
+use Rattle.format.specs.Given.{Given, gives, refused, _then_}
 use Rattle.format.specs.Refusals.{refusalNumber}
 use Rattle.format.specs.Formats.{admitted, preparedOf, preparation, formatChecked}
 use Rattle.format.specs.Directions.{isDirection}
@@ -27,6 +27,19 @@ pub record Passed (f : Format) (directions : List ℕ) (numbers : List Number) (
   -- for the inner functions
   pub usable : Usable q
   pub same : q .format ≡ f
+
+-- what comes after a call comes after its checks: a refusal goes through
+pub then-checked : {A B : Type 0} (f : Format) (directions : List ℕ) (numbers : List Number) (g : Given A) (next : A → Given B)
+    → checked f directions numbers g then next ≡ checked f directions numbers (g then next)
+unfolding checked unless
+then-checked f directions numbers g next = by (admitted f) (all isDirection directions) (all (member f) numbers)
+  where
+    by : (a d m : Bool) → unless a (refused 1) (unless d (refused 2) (unless m (refused 3) g)) then next
+        ≡ unless a (refused 1) (unless d (refused 2) (unless m (refused 3) (g then next)))
+    by true true true = refl
+    by true true false = refl
+    by true false m = refl
+    by false d m = refl
 
 -- ---- three tests, the first that fails
 abbrev outcome : Prepared → (a b c : Bool) → Preparation

@@ -3,7 +3,7 @@
 pub mod checks;
 pub mod delivery;
 pub mod exponents;
-pub mod members;
+mod members;
 pub mod order;
 pub mod patterns;
 pub mod signs;

@@ -37,7 +37,7 @@ pub fn compare_magnitudes(format: Format, a: Number, b: Number) -> Ordering
 }
 
 // By value: the zeros are equal, and else a negative number comes before one that is not.
-pub fn compare_values(format: Format, a: Number, b: Number) -> Ordering
+fn compare_values(format: Format, a: Number, b: Number) -> Ordering
     requires { ⌜ (admitted format ≡ true) × (member format a ≡ true) × (member format b ≡ true) ⌝ }
     ensures { λ r. ⌜ r ≡ orderZ (value format a) (value format b) ⌝ }
 {

@@ -68,7 +68,7 @@ fn decimal_count(n: u64) -> u32
 }
 
 // The digits of a significand.
-pub fn digit_count(scale: Scale, n: Significand) -> u32
+fn digit_count(scale: Scale, n: Significand) -> u32
     requires { ⌜ Scaled scale × (1 ≤ n) × (n < scale .bound) ⌝ }
     ensures { λ r. ⌜ Digits (scale .base) n r ⌝ }
 {

@@ -2,7 +2,7 @@
 use Rattle.theory.proofs.Prelude.{ℕ, _≤_, _<_, _+_, _^_, _*_, _-_, suc, zero, _∙_, ap, _≡_, sym, refl, decLe, mul-le-mul-right, mul-le-mul-left, mul-pos, le-trans, false, arith, ℤ, pos, natAbs}
 use Rattle.theory.proofs.Words.{Positional, place, lower, ufp}
 use Rattle.theory.specs.declared.Direction.the-variants.{TowardZero}
-use Rattle.theory.specs.Rump.{sum, difference, product, belowOne, scaledUp, ufpByFigure1}
+use Rattle.theory.proofs.Rump.{sum, difference, product, belowOne, scaledUp, ufpByFigure1}
 use Rattle.theory.proofs.Powers.{pow-add, pow-pos, pow-mono, pow-pred, pow-lt}
 use Rattle.theory.proofs.Wide.{wide-phi}
 use Rattle.theory.proofs.Neighbours.{lower-exact}

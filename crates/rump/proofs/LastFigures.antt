@@ -3,7 +3,7 @@ use Rattle.theory.proofs.Prelude.{ℕ, _≤_, _+_, _*_, _-_, true, cond, _∙_,
 use lib.IntN.{ℤ-discrete, *ℤ-comm}
 use Rattle.theory.proofs.Words.{Positional, ulp, roundZ}
 use Rattle.theory.specs.declared.Direction.the-variants.{TowardZero, Upward}
-use Rattle.theory.specs.Rump.{sum, difference, product, ulpByFigure3, gapBelow, gapDefect, ulpByFigure5}
+use Rattle.theory.proofs.Rump.{sum, difference, product, ulpByFigure3, gapBelow, gapDefect, ulpByFigure5}
 use Rattle.theory.proofs.Tests.{refuted}
 use Rattle.theory.proofs.Wide.{wide-base-pred}
 use Rattle.theory.proofs.Neighbours.{lower-le}

@@ -5,7 +5,7 @@ use native.Mathlib.Nat.{one-mul, mul-zero}
 use Rattle.theory.proofs.Words.{Wide, signed, roundZ}
 use Rattle.theory.specs.declared.Direction.{Direction}
 use Rattle.theory.specs.declared.Direction.the-variants.{TowardZero}
-use Rattle.theory.specs.Rump.{sum, difference, product}
+use Rattle.theory.proofs.Rump.{sum, difference, product}
 use Rattle.theory.proofs.Integers.{size-signed, plus-sign}
 use Rattle.theory.proofs.Powers.{pow-add, pow-pos}
 use Rattle.theory.proofs.Wide.{wide-pow}

@@ -2,7 +2,7 @@
 use Rattle.theory.proofs.Prelude.{ℕ, _≤_, _<_, _+_, _^_, _*_, _-_, suc, zero, true, false, Bool, xor, ⊎-elim, _∙_, ap, _≡_, sym, refl, ap₂, subst, mul-le-mul-right, le-of-mul-le-mul-right, le-antisymm, mul-pos, zero-mul, lt-ltb, add-one, arith, ℤ, pos, natAbs, _*ℤ_, le-leb, lt-leb}
 use Rattle.theory.proofs.Words.{Positional, Wide, ufp, ulp, signed, roundZ, upper, successor}
 use Rattle.theory.specs.declared.Direction.{Direction}
-use Rattle.theory.specs.Rump.{product}
+use Rattle.theory.proofs.Rump.{product}
 use Rattle.theory.proofs.Powers.{pow-add, pow-pos}
 use Rattle.theory.proofs.Wide.{wide-pow}
 use Rattle.theory.proofs.Neighbours.{le-upper, upper-wide, upper-exact}

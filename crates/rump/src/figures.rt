@@ -4,6 +4,7 @@ use crate::Figure;
 use crate::LineOperation;
 use crate::constants::power;
 use crate::constants::subrealmin;
+use arithmetic::operands::unmarked;
 use arithmetic::product::multiply;
 use arithmetic::sum::add;
 use arithmetic::sum::subtract;
@@ -40,7 +41,7 @@ fn line(
     match operation {
         LineOperation::Sum => add(prepared, direction, x, y),
         LineOperation::Difference => subtract(prepared, direction, x, y),
-        LineOperation::Product => multiply(prepared, direction, x, y),
+        LineOperation::Product => unmarked(multiply(prepared, direction, x, y)),
     }
 }
 

@@ -1,6 +1,7 @@
 // Rump's figures with the successor, in any direction: the last place (figure 3) and the first place (figure 6).
 use crate::premises::has_lead;
 use crate::premises::is_inner;
+use arithmetic::operands::unmarked;
 use arithmetic::product::multiply;
 use arithmetic::sum::subtract;
 use format::Prepared;
@@ -63,7 +64,7 @@ pub fn first_by_successor(prepared: Prepared, direction: Direction, x: Number) -
     if !has_lead(prepared) {
         return NumberAnswer::Refused(Refusal::PremiseFails);
     }
-    match multiply(prepared, direction, x, lead(prepared)) {
+    match unmarked(multiply(prepared, direction, x, lead(prepared))) {
         NumberAnswer::Refused(_) => NumberAnswer::Refused(Refusal::PremiseFails),
         NumberAnswer::Value(y) => last_by_successor(prepared, direction, y),
     }

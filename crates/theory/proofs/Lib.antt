@@ -34,6 +34,7 @@ pub mod ReversedSteps
 pub mod Reversed
 pub mod ReversedTight
 -- Rump's routes
+pub mod Rump
 pub mod Operations
 pub mod FirstPlace
 pub mod LastPlace

@@ -1,6 +1,6 @@
 -- Laws of marks: what a mark says of the exact value, the mark of a magnitude that is kept with its sign, and the marks of each
 -- direction.
-use Rattle.theory.proofs.Prelude.{ℕ, _≤_, _<_, _*_, true, false, Bool, cond, not, inl, inr, _⊎_, _≢_, _∙_, ap, _≡_, sym, refl, arith, ℤ, pos, natAbs, _*ℤ_, negℤ, ltZ, _<ℤ_}
+use Rattle.theory.proofs.Prelude.{ℕ, _≤_, _<_, _+_, _*_, mul-lt-mul-of-pos-right, lt-of-mul-lt-mul-right, eq-of-mul-eq-mul-right, true, false, Bool, cond, not, inl, inr, _⊎_, _≢_, _∙_, ap, _≡_, sym, refl, arith, ℤ, pos, natAbs, _*ℤ_, negℤ, ltZ, _<ℤ_}
 use Rattle.theory.specs.Marks as marks
 use Rattle.theory.specs.Marks.{Mark, Exact, Low, High, mark, MultipliedOut, otherMark, inexact}
 use Rattle.theory.specs.Place.{Positional}
@@ -10,6 +10,7 @@ use Rattle.theory.specs.Round.{Direction, NearestEven, NearestAway, Towa
 use Rattle.theory.specs.Signed.{signed, isNegative, WideZ, roundZ}
 use Rattle.theory.proofs.Integers.{above, below, le-parts, lt-parts, parts-lt, parts-eq, neg-above, neg-below, scale-above, scale-below, scale-signed, own-sign, negate-signed}
 use Rattle.theory.proofs.Neighbours.{lowerQ-le}
+use Rattle.theory.proofs.Monotone.{Same}
 use Rattle.theory.proofs.Round.{round-exact}
 use Rattle.theory.proofs.Signed.{roundZ-signed, toward-zero-size, downward-le, le-upward}
 use Rattle.theory.proofs.Order.{Under, lt-true, lt-false, make-lt, make-ge}
@@ -84,6 +85,43 @@ module _ (v N : ℤ) (D : ℕ) where
           (parts-eq (negℤ v *ℤ pos D) (negℤ N) (omega (arith, turned-above, turned-below, neg-above N, neg-below N, ap above e, ap below e)))
       by (marks.below l) = mark-above (negℤ v) (negℤ N) D (omega (arith, turned-above, turned-below, neg-above N, neg-below N, lt-parts l))
       by (marks.above l) = mark-below (negℤ v) (negℤ N) D (omega (arith, turned-above, turned-below, neg-above N, neg-below N, lt-parts l))
+
+-- ---- the same fraction N / D = N′ / D′ has the same mark
+module _ {D D′ m n m′ n′ : ℕ} (e : Same m D m′ D′) (f : Same n D n′ D′) (x y : ℕ) where
+  lt-same : x * D + m < y * D + n → x * D′ + m′ < y * D′ + n′
+  lt-same l = lt-of-mul-lt-mul-right D (omega (arith, mul-lt-mul-of-pos-right {k = D′} l (e .divisor′), e .cross, f .cross))
+
+  eq-same : x * D + m ≡ y * D + n → x * D′ + m′ ≡ y * D′ + n′
+  eq-same l = eq-of-mul-eq-mul-right D (e .divisor) _ _ (omega (arith, ap (λ (z : ℕ). z * D′) l, e .cross, f .cross))
+
+pub mark-same : {N D N′ D′ : ℕ} (v : ℤ) (s : Bool) → Same N D N′ D′ → mark v (signed s N) D ≡ mark v (signed s N′) D′
+mark-same {N} {D} {N′} {D′} v s h = by (mark-multiplied v (signed s N) D)
+  where
+    M : ℤ
+    M = signed s N
+
+    M′ : ℤ
+    M′ = signed s N′
+
+    above-same : (s : Bool) → Same (above (signed s N)) D (above (signed s N′)) D′
+    above-same false = h
+    above-same true = rw (neg-above (pos N), neg-above (pos N′)) (record { divisor = h .divisor; divisor′ = h .divisor′; cross = omega arith })
+
+    below-same : (s : Bool) → Same (below (signed s N)) D (below (signed s N′)) D′
+    below-same false = record { divisor = h .divisor; divisor′ = h .divisor′; cross = omega arith }
+    below-same true = rw (neg-below (pos N), neg-below (pos N′)) h
+
+    by : {t : Mark} → MultipliedOut v M D t → t ≡ mark v M′ D′
+    by (marks.equal e) =
+        sym (mark-equal v M′ D′
+        (parts-eq (v *ℤ pos D′) M′
+        (omega (arith, scale-above v D′, scale-below v D′, eq-same (below-same s) (above-same s) (above v) (below v) (omega (arith, ap above e, ap below e, scale-above v D, scale-below v D))))))
+    by (marks.below l) =
+        sym (mark-below v M′ D′
+        (omega (arith, scale-above v D′, scale-below v D′, lt-same (below-same s) (above-same s) (above v) (below v) (omega (arith, lt-parts l, scale-above v D, scale-below v D)))))
+    by (marks.above l) =
+        sym (mark-above v M′ D′
+        (omega (arith, scale-above v D′, scale-below v D′, lt-same (above-same s) (below-same s) (below v) (above v) (omega (arith, lt-parts l, scale-above v D, scale-below v D)))))
 
 -- ---- what a given mark says
 module _ {v N : ℤ} {D : ℕ} where

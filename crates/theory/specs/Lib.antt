@@ -11,4 +11,3 @@ pub mod Signed
 pub mod Marks
 pub mod Faithful
 pub mod Nearest
-pub mod Rump

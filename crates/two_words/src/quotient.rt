@@ -42,7 +42,7 @@ fn digit(h: u64, l: u64, d: u64) -> WordQuotient
 }
 
 // The quotient of h * 2^64 + l by d, whose top bit is set: two digits.
-pub fn divide_normal(h: u64, l: u64, d: u64) -> WordQuotient
+fn divide_normal(h: u64, l: u64, d: u64) -> WordQuotient
     requires { ⌜ (2 ^ 63 ≤ d) × (h < d) ⌝ }
     ensures { λ r. ⌜ (r .quotient * d + r .remainder ≡ h * 2 ^ 64 + l) × (r .remainder < d) ⌝ }
 {

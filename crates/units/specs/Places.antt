@@ -1,14 +1,11 @@
 -- The places of a number x of the format f, as numbers of the format.
-use Prim.Native.Nat.{ℕ}
-use mathlib.Core.Path.{_≡_}
-use mathlib.Core.Bool.{true, false}
+use mathlib.Core.Bool.{false}
 use mathlib.Core.List.{[], _∷_}
-use lib.IntN.{pos}
 use Rattle.theory.specs.Units.{ufp, ulp, uls}
 use Rattle.format.specs.declared.Format.{Format}
 use Rattle.number.specs.declared.Number.{Number}
 use Rattle.format.specs.Given.{Given, gives}
-use Rattle.number.specs.Numbers.{member, magnitude, value, number}
+use Rattle.number.specs.Numbers.{magnitude, number}
 use Rattle.number.specs.Checks.{checked}
 use Rattle.units.specs.declared.places.Place.{Place}
 use Rattle.units.specs.declared.places.Place.the-variants.{First, Last, Least}
@@ -24,13 +21,6 @@ lastPlace f x = checked f [] (x ∷ []) (gives (number f false (ulp (f .base) (f
 -- uls(x), the place of the least nonzero digit
 unfoldable pub leastPlace : Format → Number → Given Number
 leastPlace f x = checked f [] (x ∷ []) (gives (number f false (uls (f .base) (magnitude f x))))
-
--- a call gives a number of the format, with the value n
-pub record GivesValue (f : Format) (answer : Given Number) (n : ℕ) : Type 0 where
-  pub given : Number
-  pub is : answer ≡ gives given
-  pub number : member f given ≡ true
-  pub value-is : value f given ≡ pos n
 
 -- the code's places: the number of one, and the answer of its call
 abbrev pub placeNumber : Place → Format → Number → Number

@@ -13,14 +13,15 @@ use Rattle.number.specs.Signs.{negated, unsigned}
 use Rattle.number.specs.Order.{compared}
 use Rattle.units.specs.Neighbours.{predecessorOf, successorOf}
 use Rattle.units.specs.Places.{firstPlace}
-use Rattle.theory.specs.Marks.{inexact}
+use Rattle.theory.specs.declared.Mark.{Mark}
+use Rattle.theory.specs.declared.Mark.the-variants.{Exact, Low, High}
 use Rattle.arithmetic.specs.declared.Rounded.{Rounded}
 use Rattle.arithmetic.specs.Marked.{withoutMark, sumAnswer, differenceAnswer, productAnswer, fractionAnswer, conversionAnswer}
 use Rattle.arithmetic.specs.declared.CountedQuotient.{CountedQuotient}
 use Rattle.arithmetic.specs.Quotients.{withoutDigits, quotientAnswer}
 use Rattle.fast_two_sum.specs.declared.Steps.{Steps}
 use Rattle.fast_two_sum.specs.Calls.{fastTwoSum}
-use Rattle.binary32_arithmetic.specs.Calls.{Sum, Difference, Product, Quotient, patternCall}
+use Rattle.binary32_arithmetic.specs.Calls.{Sum, Difference, Product, Quotient, patternAlone, patternCall}
 use Rattle.decimal32.specs.Patterns.{decimal32Read, decimal32Written}
 
 -- ---- answers that are no numbers, as numbers
@@ -40,9 +41,15 @@ wholeOrder g = g then λ o. gives (orderWhole o)
 abbrev pub patternNumber : Given ℕ → Given Number
 patternNumber g = g then λ n. gives (whole false n)
 
--- whether a result is not exact, as 0 or 1
-abbrev pub inexactWhole : Given Rounded → Given Number
-inexactWhole g = g then λ x. gives (whole false (inexact (x .mark)))
+-- a mark as 0, 1 or 2
+abbrev pub markNumber : Mark → ℕ
+markNumber Exact = 0
+markNumber Low = 1
+markNumber High = 2
+
+-- the mark of a result
+abbrev pub markWhole : Given Rounded → Given Number
+markWhole g = g then λ x. gives (whole false (markNumber (x .mark)))
 
 -- the number of quotient digits
 abbrev pub digitsWhole : Given CountedQuotient → Given Number
@@ -70,14 +77,14 @@ calls f d a b =
     ∷ predecessorOf f a
     ∷ successorOf f a
     ∷ firstPlace f a
-    ∷ patternNumber (patternCall Sum d (lowWord (a .significand)) (lowWord (b .significand)))
-    ∷ patternNumber (patternCall Difference d (lowWord (a .significand)) (lowWord (b .significand)))
-    ∷ patternNumber (patternCall Product d (lowWord (a .significand)) (lowWord (b .significand)))
-    ∷ patternNumber (patternCall Quotient d (lowWord (a .significand)) (lowWord (b .significand)))
-    ∷ inexactWhole (sumAnswer f d a b)
-    ∷ inexactWhole (differenceAnswer f d a b)
-    ∷ inexactWhole (productAnswer f d a b)
-    ∷ inexactWhole (withoutDigits (quotientAnswer f d a b))
+    ∷ patternNumber (patternAlone (patternCall Sum d (lowWord (a .significand)) (lowWord (b .significand))))
+    ∷ patternNumber (patternAlone (patternCall Difference d (lowWord (a .significand)) (lowWord (b .significand))))
+    ∷ patternNumber (patternAlone (patternCall Product d (lowWord (a .significand)) (lowWord (b .significand))))
+    ∷ patternNumber (patternAlone (patternCall Quotient d (lowWord (a .significand)) (lowWord (b .significand))))
+    ∷ markWhole (sumAnswer f d a b)
+    ∷ markWhole (differenceAnswer f d a b)
+    ∷ markWhole (productAnswer f d a b)
+    ∷ markWhole (withoutDigits (quotientAnswer f d a b))
     ∷ decimal32Read (lowWord (a .significand))
     ∷ patternNumber (decimal32Written a)
     ∷ digitsWhole (quotientAnswer f d a b)

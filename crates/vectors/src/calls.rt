@@ -20,11 +20,10 @@ use theory::Mark;
 ghost use mathlib.Core.Path.{_≡_};
 ghost use mathlib.Core.Bool.{true, false};
 ghost use Rattle.number.specs.Answers.{numberGiven, orderGiven, patternGiven};
-ghost use Rattle.theory.specs.Marks.{inexact};
 ghost use Rattle.arithmetic.specs.Marked.{roundedGiven};
 ghost use Rattle.arithmetic.specs.Quotients.{quotientGiven, withoutDigits};
 ghost use Rattle.fast_two_sum.specs.Answers.{stepsGiven};
-ghost use Rattle.vectors.specs.Calls.{whole, wholeOrder, patternNumber, inexactWhole, digitsWhole, firstOfSteps, answerOf};
+ghost use Rattle.vectors.specs.Calls.{whole, wholeOrder, patternNumber, markNumber, markWhole, digitsWhole, firstOfSteps, answerOf};
 
 // A whole number.
 pub fn whole(negative: bool, n: Significand) -> Number
@@ -78,25 +77,25 @@ fn pattern_number(pattern: PatternAnswer) -> NumberAnswer
     }
 }
 
-// 1 for a mark that is not exact.
-fn inexact_flag(mark: Mark) -> Significand
-    ensures { λ r. ⌜ r ≡ inexact mark ⌝ }
+// A mark as 0, 1 or 2: exact, low, high.
+fn mark_number(mark: Mark) -> Significand
+    ensures { λ r. ⌜ r ≡ markNumber mark ⌝ }
 {
     match mark {
         Mark::Exact => 0,
         Mark::Low => 1,
-        Mark::High => 1,
+        Mark::High => 2,
     }
 }
 
-// Whether a result is not exact, as 0 or 1.
-fn inexact_number(answer: RoundedAnswer) -> NumberAnswer
-    ensures { λ r. ⌜ numberGiven r ≡ inexactWhole (roundedGiven answer) ⌝ }
+// The mark of a result, as a whole number.
+fn mark_whole(answer: RoundedAnswer) -> NumberAnswer
+    ensures { λ r. ⌜ numberGiven r ≡ markWhole (roundedGiven answer) ⌝ }
 {
     match answer {
         RoundedAnswer::Value(rounded) => {
             let mark = rounded.mark;
-            NumberAnswer::Value(whole(false, inexact_flag(mark)))
+            NumberAnswer::Value(whole(false, mark_number(mark)))
         }
         RoundedAnswer::Refused(why) => NumberAnswer::Refused(why),
     }
@@ -146,14 +145,14 @@ pub fn answer_of(operation: u32, format: Format, d: u32, a: Number, b: Number) -
         8 => units::neighbours::predecessor(format, a),
         9 => units::neighbours::successor(format, a),
         10 => units::places::ufp(format, a),
-        11 => pattern_number(operations::pattern_sum(d, m, n)),
-        12 => pattern_number(operations::pattern_difference(d, m, n)),
-        13 => pattern_number(operations::pattern_product(d, m, n)),
-        14 => pattern_number(operations::pattern_quotient(d, m, n)),
-        15 => inexact_number(arithmetic::sum::sum(format, d, a, b)),
-        16 => inexact_number(arithmetic::sum::difference(format, d, a, b)),
-        17 => inexact_number(arithmetic::product::product(format, d, a, b)),
-        18 => inexact_number(without_digits(quotient(format, d, a, b))),
+        11 => pattern_number(operations::without_mark(operations::pattern_sum(d, m, n))),
+        12 => pattern_number(operations::without_mark(operations::pattern_difference(d, m, n))),
+        13 => pattern_number(operations::without_mark(operations::pattern_product(d, m, n))),
+        14 => pattern_number(operations::without_mark(operations::pattern_quotient(d, m, n))),
+        15 => mark_whole(arithmetic::sum::sum(format, d, a, b)),
+        16 => mark_whole(arithmetic::sum::difference(format, d, a, b)),
+        17 => mark_whole(arithmetic::product::product(format, d, a, b)),
+        18 => mark_whole(without_digits(quotient(format, d, a, b))),
         19 => read_decimal32(m),
         20 => pattern_number(write_decimal32(a)),
         21 => digits_number(quotient(format, d, a, b)),

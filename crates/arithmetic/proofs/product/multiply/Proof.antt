@@ -1,7 +1,7 @@
--- `arithmetic::product::multiply` meets its contract: the product in the wide format, delivered without its mark.
-use Rattle.theory.proofs.Prelude.{xor, _∙_, ap, needs}
-use Rattle.arithmetic.specs.Marked.{withoutMark, markedProduct}
-use Rattle.arithmetic.proofs.Prepared.{Delivers, marked-number, product-delivers}
+-- `arithmetic::product::multiply` meets its contract: the product in the wide format, delivered.
+use Rattle.theory.proofs.Prelude.{xor, _∙_}
+use Rattle.arithmetic.specs.Marked.{markedProduct}
+use Rattle.arithmetic.proofs.Prepared.{Delivers, product-delivers}
 use Rattle.arithmetic.proofs.Pairs.{product-operands}
 use Rattle.arithmetic.proofs.product.multiply.Statement.{statement}
 use Rattle.arithmetic.proofs.product.multiply.Tie as tie
@@ -22,5 +22,4 @@ multiply-spec =
     tie.close
     (tie.spec
     (λ c κs. c .before .before .before .pre) (λ c κs. product-operands (start c .pre) (c .product-powers .ensures))
-    (λ c κs. (start (c .before) .pre .usable, result c .canonical)) (λ c κs. search needs)
-    (λ c. c .unmarked .ensures ∙ ap withoutMark (c .before .deliver-wide .ensures ∙ result (c .before .before) .is) ∙ marked-number _ _ _ _))
+    (λ c κs. (start (c .before) .pre .usable, result c .canonical)) (λ c. c .deliver-wide .ensures ∙ result (c .before) .is))

@@ -2,13 +2,16 @@
 use Rattle.theory.proofs.Prelude.{true, _∙_, ap, ap₂, _≡_, sym, needs, ltb-true}
 use Rattle.theory.specs.Tests.{_and_}
 use Rattle.theory.proofs.Tests.{and-left, and-right, denied, granted, unless-passed, unless-failed}
+use Rattle.format.specs.declared.Format.{Format}
 use Rattle.format.specs.Published.{binary32}
 use Rattle.number.specs.Answers.{numberGiven}
 use Rattle.binary32.specs.Patterns.{finite, answerWritten}
 use Rattle.binary32.proofs.RoundTrips.{pattern-member}
-use Rattle.binary32_arithmetic.specs.Calls.{Sum, roundedBy, onPatterns}
-use Rattle.binary32_arithmetic.specs.Slices.{passes}
-use Rattle.binary32_arithmetic.proofs.CallLaws.{constant-operands, constant-format}
+use Rattle.number.proofs.Membership.{prepared-format}
+use Rattle.arithmetic.specs.Operations.{roundedSum}
+use Rattle.binary32_arithmetic.specs.Calls.{Sum}
+use Rattle.binary32_arithmetic.specs.Slices.{entrySum, passes}
+use Rattle.binary32_arithmetic.proofs.CallLaws.{alone, constant-operands}
 use Rattle.binary32_arithmetic.proofs.Halves.{halves-pass}
 use Rattle.binary32_arithmetic.proofs.slices.examine.Statement.{statement}
 use Rattle.binary32_arithmetic.proofs.slices.examine.Tie as tie
@@ -19,8 +22,7 @@ returns c =
     halves-pass _ _ _ (ltb-true _ _ (and-left _ _ h)) (ltb-true _ _ (and-right _ _ h))
 
 returns-2 : tie.Need-returns-2
-unfolding onPatterns
-returns-2 c = sym (ap passes (unless-failed _ _ (denied (c .before .are-finite .ensures) (c .if2 .taken))))
+returns-2 c = sym (ap passes (alone Sum _ _ _ ∙ unless-failed _ _ (denied (c .before .are-finite .ensures) (c .if2 .taken))))
 
 both : (c : tie.Else2) → let s = c .before .before .before .before .args in finite (s .a) and finite (s .b) ≡ true
 both c = granted (c .before .are-finite .ensures) (c .if2 .left)
@@ -30,17 +32,16 @@ read c = c .before .before .before .before
 
 -- the entry is the sum, written
 entry : (c : tie.After-add) → let s = read c .before .before .before .before .args in
-    answerWritten (numberGiven (c .add .result)) ≡ onPatterns Sum (s .direction) (s .a) (s .b)
-unfolding onPatterns
+    answerWritten (numberGiven (c .add .result)) ≡ entrySum (s .direction) (s .a) (s .b)
 entry c =
     let e = read c in
     let s = e .before .before .before .before .args in
     let r = c .before in
     ap answerWritten
     (c .add .ensures
-    ∙ constant-format (r .before .before .prepared-binary32 .ensures) Sum (s .direction) (r .before .read-finite .result) (r .read-finite2 .result)
-    ∙ ap₂ (roundedBy Sum binary32 (s .direction)) (r .before .read-finite .ensures) (r .read-finite2 .ensures))
-    ∙ sym (unless-passed _ _ (both e))
+    ∙ ap (λ (f : Format). roundedSum f (s .direction) (r .before .read-finite .result) (r .read-finite2 .result)) (prepared-format (r .before .before .prepared-binary32 .ensures))
+    ∙ ap₂ (roundedSum binary32 (s .direction)) (r .before .read-finite .ensures) (r .read-finite2 .ensures))
+    ∙ sym (alone Sum (s .direction) (s .a) (s .b) ∙ unless-passed _ _ (both e))
 
 add-requires : tie.Need-add-requires
 add-requires c κs =

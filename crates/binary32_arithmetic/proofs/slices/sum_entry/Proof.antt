@@ -5,18 +5,18 @@ use Rattle.theory.proofs.Tests.{and-left, and-right, denied, granted, unless-pa
 use Rattle.format.specs.declared.Format.{Format}
 use Rattle.format.specs.Published.{binary32}
 use Rattle.number.proofs.Membership.{prepared-format, prepared-member, usable}
-use Rattle.arithmetic.specs.Marked.{roundedGiven, withoutMark, markedSum}
-use Rattle.arithmetic.proofs.Prepared.{marked-number}
-use Rattle.arithmetic.proofs.Results.{sum-member}
+use Rattle.arithmetic.specs.Marked.{roundedGiven, markedSum}
 use Rattle.binary32.specs.Patterns.{finite}
-use Rattle.binary32.proofs.Fields.{binary32-admitted, binary32-limits}
+use Rattle.binary32.proofs.Fields.{binary32-admitted}
 use Rattle.binary32.proofs.RoundTrips.{pattern-member}
-use Rattle.binary32_arithmetic.specs.Slices.{entryWritten, markedEntry}
+use Rattle.binary32_arithmetic.specs.Calls.{Sum, onPatterns, markedPatternGiven, roundedWritten}
+use Rattle.binary32_arithmetic.specs.Slices.{entryWritten}
+use Rattle.binary32_arithmetic.proofs.CallLaws.{result-member}
 use Rattle.binary32_arithmetic.proofs.slices.sum_entry.Statement.{statement}
 use Rattle.binary32_arithmetic.proofs.slices.sum_entry.Tie as tie
 
 returns : tie.Need-returns
-unfolding markedEntry
+unfolding onPatterns
 returns c = ap entryWritten (sym (unless-failed _ _ (denied (c .before .are-finite .ensures) (c .if1 .taken))))
 
 both : (c : tie.Else1) → let s = c .before .before .args in finite (s .a) and finite (s .b) ≡ true
@@ -44,20 +44,24 @@ summed c =
     ∙ ap (λ (f : Format). markedSum f (read r .before .before .args .direction) (r .before .read-finite .result) (r .read-finite2 .result))
     (prepared-format (r .before .before .prepared-binary32 .ensures))
 
-write-entry-requires : tie.Need-write-entry-requires
-write-entry-requires c κs = λ x h. sum-member binary32-limits _ (c .before .before .read-finite .result) (c .before .read-finite2 .result) (sym (marked-number binary32 _ 1 _) ∙ ap withoutMark (sym (summed c) ∙ ap roundedGiven h))
+write-rounded-requires : tie.Need-write-rounded-requires
+write-rounded-requires c κs = λ x h. result-member Sum _ (c .before .before .read-finite .result) (c .before .read-finite2 .result) (sym (summed c) ∙ ap roundedGiven h)
 
-returns-2 : tie.Need-returns-2
-unfolding markedEntry
-returns-2 c =
+-- written
+entry : (c : tie.After-write-rounded) → let s = read (c .before .before) .before .before .args in
+    markedPatternGiven (c .write-rounded .result) ≡ onPatterns Sum (s .direction) (s .a) (s .b)
+unfolding onPatterns
+entry c =
     let r = c .before .before in
-    c .write-entry .ensures
-    ∙ ap entryWritten
-    (summed (c .before) ∙ ap₂ (markedSum binary32 _) (r .before .read-finite .ensures) (r .read-finite2 .ensures) ∙ sym (unless-passed _ _ (both (read r))))
+    c .write-rounded .ensures
+    ∙ ap roundedWritten (summed (c .before) ∙ ap₂ (markedSum binary32 _) (r .before .read-finite .ensures) (r .read-finite2 .ensures))
+    ∙ sym (unless-passed _ _ (both (read r)))
 
 pub sum-entry-spec : {M : Type 1} → statement M
 sum-entry-spec =
     tie.close
     (tie.spec
     (λ c κs. search needs) returns (λ c κs. search needs) (λ c κs. and-left _ _ (both (c .before))) (λ c κs. and-right _ _ (both (c .before .before)))
-    marked-sum-requires write-entry-requires returns-2)
+    marked-sum-requires write-rounded-requires (λ c. search needs) (λ c. search needs)
+    (λ c. ap entryWritten (sym (ap markedPatternGiven (c .enum-told .given .1)) ∙ entry (c .before .before)))
+    (λ c. ap entryWritten (sym (ap markedPatternGiven (c .before .entry .given .1)) ∙ entry (c .before .before .before))))

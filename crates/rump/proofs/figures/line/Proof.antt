@@ -1,6 +1,8 @@
 -- `rump::figures::line` meets its contract.
-use Rattle.theory.proofs.Prelude.{needs}
+use Rattle.theory.proofs.Prelude.{_∙_, ap, needs}
 use Rattle.number.proofs.Prelude.{Operands, known}
+use Rattle.arithmetic.specs.Marked.{withoutMark}
+use Rattle.arithmetic.proofs.Prepared.{marked-number}
 use Rattle.rump.proofs.Chains.{first-ends, second-ends, both-given, number-settled}
 use Rattle.rump.proofs.figures.line.Statement.{statement}
 use Rattle.rump.proofs.figures.line.Tie as tie
@@ -39,8 +41,10 @@ returns-4 c =
 
 returns-5 : tie.Need-returns-5
 returns-5 c =
-    let k = c .before .before .before in
-    both-given _ _ _ (known (start k .pre .0) .admits) (first k .a .given .1) (k .before .b .given .1) (c .before .enum-told5 .given .1) (c .multiply .ensures)
+    let m = c .before in
+    let k = m .before .before .before in
+    both-given _ _ _ (known (start k .pre .0) .admits) (first k .a .given .1) (k .before .b .given .1) (m .before .enum-told5 .given .1)
+    (c .unmarked .ensures ∙ ap withoutMark (m .multiply .ensures) ∙ marked-number _ _ _ _)
 
 pub line-spec : {M : Type 1} → statement M
 line-spec =
@@ -48,4 +52,4 @@ line-spec =
     (tie.spec
     (λ c. search needs) (λ c. search needs) (λ c. first-ends _ _ _ _ (c .enum-told .given .1) (c .before .before .pre .1)) (λ c. search needs)
     (λ c. search needs) returns-2 (λ c. search needs) (λ c κs. operands (c .before .before)) (λ c. search needs)
-    (λ c κs. operands (c .before .before)) (λ c. search needs) (λ c κs. operands (c .before .before)) returns-3 returns-4 returns-5)
+    (λ c κs. operands (c .before .before)) (λ c. search needs) (λ c κs. operands (c .before .before)) (λ c κs. search needs) returns-3 returns-4 returns-5)

@@ -8,7 +8,8 @@ use Rattle.number.specs.declared.Number.{Number}
 use Rattle.arithmetic.specs.Marked.{withoutMark, fractionAnswer}
 use Rattle.arithmetic.specs.Quotients.{withoutDigits}
 use Rattle.fast_two_sum.specs.Calls.{fastTwoSum}
-use Rattle.vectors.specs.Calls.{calls, wholeOrder, patternNumber, inexactWhole, digitsWhole, firstOfSteps, lowWord, answerOf}
+use Rattle.binary32_arithmetic.specs.Calls.{patternAlone}
+use Rattle.vectors.specs.Calls.{calls, wholeOrder, patternNumber, markWhole, digitsWhole, firstOfSteps, lowWord, answerOf}
 use Rattle.vectors.proofs.calls.answer_of.Statement.{statement}
 use Rattle.vectors.proofs.calls.answer_of.Tie as tie
 
@@ -53,7 +54,8 @@ answer-of-spec =
     (λ c κs. search needs) (λ c κs. search needs) (λ c κs. search needs) (λ c κs. search needs) (λ c κs. search needs)
     (λ c κs. search needs) (λ c κs. search needs) (λ c κs. search needs) (λ c κs. search needs) (λ c κs. search needs)
     (λ c κs. search needs) (λ c κs. search needs) (λ c κs. search needs) (λ c κs. search needs) (λ c κs. search needs)
-    (λ c κs. search needs) (λ c κs. search needs) (λ c κs. search needs) (λ c κs. search needs)
+    (λ c κs. search needs) (λ c κs. search needs) (λ c κs. search needs) (λ c κs. search needs) (λ c κs. search needs)
+    (λ c κs. search needs) (λ c κs. search needs) (λ c κs. search needs)
     (λ c. known (c .before .before .match .keys1) _ _ _ _ (c .unmarked .ensures ∙ ap withoutMark (c .before .sum .ensures)))
     (λ c. known (c .before .before .match .keys2) _ _ _ _ (c .unmarked2 .ensures ∙ ap withoutMark (c .before .difference .ensures)))
     (λ c. known (c .before .before .match .keys3) _ _ _ _ (c .unmarked3 .ensures ∙ ap withoutMark (c .before .product .ensures)))
@@ -64,16 +66,24 @@ answer-of-spec =
     (λ c. known (c .before .match .keys7) _ _ _ _ (c .magnitude .ensures)) (λ c. known (c .before .match .keys8) _ _ _ _ (c .negate .ensures))
     (λ c. known (c .before .match .keys9) _ _ _ _ (c .predecessor .ensures)) (λ c. known (c .before .match .keys10) _ _ _ _ (c .successor .ensures))
     (λ c. known (c .before .match .keys11) _ _ _ _ (c .ufp .ensures))
-    (λ c. known (c .before .before .match .keys12) _ _ _ _ (c .pattern-number .ensures ∙ ap patternNumber (c .before .pattern-sum .ensures)))
-    (λ c. known (c .before .before .match .keys13) _ _ _ _ (c .pattern-number2 .ensures ∙ ap patternNumber (c .before .pattern-difference .ensures)))
-    (λ c. known (c .before .before .match .keys14) _ _ _ _ (c .pattern-number3 .ensures ∙ ap patternNumber (c .before .pattern-product .ensures)))
-    (λ c. known (c .before .before .match .keys15) _ _ _ _ (c .pattern-number4 .ensures ∙ ap patternNumber (c .before .pattern-quotient .ensures)))
-    (λ c. known (c .before .before .match .keys16) _ _ _ _ (c .inexact-number .ensures ∙ ap inexactWhole (c .before .sum2 .ensures)))
-    (λ c. known (c .before .before .match .keys17) _ _ _ _ (c .inexact-number2 .ensures ∙ ap inexactWhole (c .before .difference2 .ensures)))
-    (λ c. known (c .before .before .match .keys18) _ _ _ _ (c .inexact-number3 .ensures ∙ ap inexactWhole (c .before .product2 .ensures)))
+    (λ c.
+    known (c .before .before .before .match .keys12) _ _ _ _
+    (c .pattern-number .ensures ∙ ap patternNumber (c .before .without-mark .ensures ∙ ap patternAlone (c .before .before .pattern-sum .ensures))))
+    (λ c.
+    known (c .before .before .before .match .keys13) _ _ _ _
+    (c .pattern-number2 .ensures ∙ ap patternNumber (c .before .without-mark2 .ensures ∙ ap patternAlone (c .before .before .pattern-difference .ensures))))
+    (λ c.
+    known (c .before .before .before .match .keys14) _ _ _ _
+    (c .pattern-number3 .ensures ∙ ap patternNumber (c .before .without-mark3 .ensures ∙ ap patternAlone (c .before .before .pattern-product .ensures))))
+    (λ c.
+    known (c .before .before .before .match .keys15) _ _ _ _
+    (c .pattern-number4 .ensures ∙ ap patternNumber (c .before .without-mark4 .ensures ∙ ap patternAlone (c .before .before .pattern-quotient .ensures))))
+    (λ c. known (c .before .before .match .keys16) _ _ _ _ (c .mark-whole .ensures ∙ ap markWhole (c .before .sum2 .ensures)))
+    (λ c. known (c .before .before .match .keys17) _ _ _ _ (c .mark-whole2 .ensures ∙ ap markWhole (c .before .difference2 .ensures)))
+    (λ c. known (c .before .before .match .keys18) _ _ _ _ (c .mark-whole3 .ensures ∙ ap markWhole (c .before .product2 .ensures)))
     (λ c.
     known (c .before .before .before .match .keys19) _ _ _ _
-    (c .inexact-number4 .ensures ∙ ap inexactWhole (c .before .without-digits2 .ensures ∙ ap withoutDigits (c .before .before .quotient2 .ensures))))
+    (c .mark-whole4 .ensures ∙ ap markWhole (c .before .without-digits2 .ensures ∙ ap withoutDigits (c .before .before .quotient2 .ensures))))
     (λ c. known (c .before .match .keys20) _ _ _ _ (c .read-decimal32 .ensures))
     (λ c. known (c .before .before .match .keys21) _ _ _ _ (c .pattern-number5 .ensures ∙ ap patternNumber (c .before .write-decimal32 .ensures)))
     (λ c. known (c .before .before .match .keys22) _ _ _ _ (c .digits-number .ensures ∙ ap digitsWhole (c .before .quotient3 .ensures)))

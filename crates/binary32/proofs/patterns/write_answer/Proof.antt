@@ -1,11 +1,11 @@
--- `binary32_arithmetic::operations::write_answer` meets its contract.
+-- `binary32::patterns::write_answer` meets its contract.
 use Rattle.theory.proofs.Prelude.{_∙_, ap, sym, needs}
 use Rattle.format.specs.Given.{gives}
 use Rattle.number.specs.declared.NumberAnswer.{NumberAnswer}
 use Rattle.number.specs.Answers.{numberGiven}
 use Rattle.binary32.specs.Patterns.{answerWritten}
-use Rattle.binary32_arithmetic.proofs.operations.write_answer.Statement.{statement}
-use Rattle.binary32_arithmetic.proofs.operations.write_answer.Tie as tie
+use Rattle.binary32.proofs.patterns.write_answer.Statement.{statement}
+use Rattle.binary32.proofs.patterns.write_answer.Tie as tie
 
 returns-2 : tie.Need-returns-2
 returns-2 c = ap gives (c .pattern-of .ensures) ∙ sym (ap (λ (a : NumberAnswer). answerWritten (numberGiven a)) (c .before .before .answer2 .given .1))
