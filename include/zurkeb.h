@@ -3,8 +3,8 @@
  * Every call takes anything: it answers, or refuses by a number of enum zurkeb_refusal (zurkeb_refusal_text has a short text for each). A
  * call's refusals are listed in the order in which they are looked for: the quotient's are 1, 2, 3, 4, 5, the pattern quotient's 2, 9, 4, 5.
  * An answer struct begins with the refusal, 0 for none. At a refusal each of its numbers is {UINT64_MAX, 0, 0}, which is in no format (see
- * zurkeb_number); its other fields are zero, except `indexed` and `index` where the refusal has an index. Numbers and formats go by value. A slice goes as a pointer and a length; the caller sees to it that the pointer
- * leads to that many entries; NULL with length 0 is accepted.
+ * zurkeb_number); its other fields are zero, except `indexed` and `index` where the refusal has an index. Numbers and formats go by value. A
+ * slice goes as a pointer and a length; the caller sees to it that the pointer leads to that many entries; NULL with length 0 is accepted.
  *
  * No call keeps state, allocates memory or calls anything outside the library, so all are reentrant, in several threads too.
  * Patterns are integers in the machine's byte order. The direction is the second argument of the calls that take a format, and the last one
