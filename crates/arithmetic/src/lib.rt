@@ -1,6 +1,7 @@
 // Sum, difference, product and quotient of numbers of a format, fractions of whole numbers, and numbers of any form taken into a
 // format: the exact result, rounded once in a direction, and its mark; of a quotient also how many of its digits were worked out. Each
 // module has the operation on a prepared format, with the mark and without, and the call, which takes anything.
+#![tactic(auto)]
 pub mod conversion;
 pub mod fraction;
 pub mod operands;
@@ -13,21 +14,21 @@ use number::Number;
 use theory::Mark;
 
 // A rounded number, and how it stands to the exact result.
-#[derive(Drop)]
+#[derive(Clone, Copy)]
 pub struct Rounded {
     pub number: Number,
     pub mark: Mark,
 }
 
 // The answer of an operation: a refusal has no mark.
-#[derive(Drop)]
+#[derive(Clone, Copy)]
 pub enum RoundedAnswer {
     Value(Rounded),
     Refused(Refusal),
 }
 
 // A rounded quotient, how it stands to the exact one, and how many quotient digits were worked out.
-#[derive(Drop)]
+#[derive(Clone, Copy)]
 pub struct CountedQuotient {
     pub number: Number,
     pub mark: Mark,
@@ -35,7 +36,7 @@ pub struct CountedQuotient {
 }
 
 // The answer of the quotient: a refusal has no digits.
-#[derive(Drop)]
+#[derive(Clone, Copy)]
 pub enum QuotientAnswer {
     Value(CountedQuotient),
     Refused(Refusal),

@@ -14,7 +14,7 @@ use number::delivery::deliver;
 use rounding::Rounding;
 
 // The powers of the base beside an exact result: it is taken base ^ up times and divided by base ^ down.
-#[derive(Drop)]
+#[derive(Clone, Copy)]
 pub struct Powers {
     pub up: u32,
     pub down: u32,

@@ -16,7 +16,7 @@ use number::PatternAnswer;
 use units::powers_of_base::leading_power;
 
 // ufp, ulp, predecessor and successor of a number, as patterns.
-#[derive(Drop)]
+#[derive(Clone, Copy)]
 pub struct Places {
     pub ufp: PatternAnswer,
     pub ulp: PatternAnswer,

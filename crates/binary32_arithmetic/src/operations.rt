@@ -22,7 +22,7 @@ use number::{Number, PatternAnswer};
 use theory::Direction;
 
 // What a call on two patterns is given: its direction and the numbers of the patterns, or why it is refused.
-#[derive(Drop)]
+#[derive(Clone, Copy)]
 enum CallRead {
     Ready(Direction, Number, Number),
     Refused(Refusal),

@@ -27,7 +27,7 @@ use theory::Mark;
 
 // A number: the sign is 0 for plus, 1 for minus. The order of the fields leaves no gap, so that a number is two registers.
 #[repr(C)]
-#[derive(Drop)]
+#[derive(Clone, Copy)]
 pub struct CNumber {
     pub significand: Significand,
     pub exponent: i32,
@@ -35,7 +35,7 @@ pub struct CNumber {
 }
 
 #[repr(C)]
-#[derive(Drop)]
+#[derive(Clone, Copy)]
 pub struct NumberOut {
     pub refusal: u32,
     pub number: CNumber,
@@ -43,7 +43,7 @@ pub struct NumberOut {
 
 // The mark is 0, 1 or 2: the number is the exact result, below it, above it.
 #[repr(C)]
-#[derive(Drop)]
+#[derive(Clone, Copy)]
 pub struct RoundedOut {
     pub refusal: u32,
     pub mark: u32,
@@ -52,7 +52,7 @@ pub struct RoundedOut {
 
 // The same, with the number of quotient digits that were worked out.
 #[repr(C)]
-#[derive(Drop)]
+#[derive(Clone, Copy)]
 pub struct QuotientOut {
     pub refusal: u32,
     pub mark: u32,
@@ -62,7 +62,7 @@ pub struct QuotientOut {
 
 // A pattern of 64 bits, which leaves no room for the refusal beside it in one number.
 #[repr(C)]
-#[derive(Drop)]
+#[derive(Clone, Copy)]
 pub struct Pattern64Out {
     pub refusal: u32,
     pub pattern: u64,
@@ -70,21 +70,21 @@ pub struct Pattern64Out {
 
 // The order is -1, 0 or 1: less, equal, greater.
 #[repr(C)]
-#[derive(Drop)]
+#[derive(Clone, Copy)]
 pub struct OrderOut {
     pub refusal: u32,
     pub order: i32,
 }
 
 #[repr(C)]
-#[derive(Drop)]
+#[derive(Clone, Copy)]
 pub struct PublishedOut {
     pub refusal: u32,
     pub format: Format,
 }
 
 #[repr(C)]
-#[derive(Drop)]
+#[derive(Clone, Copy)]
 pub struct TripleOut {
     pub refusal: u32,
     pub x: CNumber,
@@ -94,7 +94,7 @@ pub struct TripleOut {
 
 // 1 for yes, 0 for no.
 #[repr(C)]
-#[derive(Drop)]
+#[derive(Clone, Copy)]
 pub struct CheckOut {
     pub refusal: u32,
     pub yes: u32,
@@ -102,7 +102,7 @@ pub struct CheckOut {
 
 // The index of the first refused entry, beside refusals 5 and 9, and how many entries are not exact, where none is refused.
 #[repr(C)]
-#[derive(Drop)]
+#[derive(Clone, Copy)]
 pub struct SlicesOut {
     pub refusal: u32,
     pub index: u64,
@@ -111,7 +111,7 @@ pub struct SlicesOut {
 
 // A position, a count or a pattern: the layout of four structs of the header. Where `indexed` is 1, `index` is that of the first refused entry.
 #[repr(C)]
-#[derive(Drop)]
+#[derive(Clone, Copy)]
 pub struct IndexedOut {
     pub refusal: u32,
     pub value: u32,
@@ -121,7 +121,7 @@ pub struct IndexedOut {
 
 // The log is 1 or 2; indexed is 1 beside refusal 9, which has an index.
 #[repr(C)]
-#[derive(Drop)]
+#[derive(Clone, Copy)]
 pub struct StretchOut {
     pub refusal: u32,
     pub log: u32,

@@ -1,3 +1,4 @@
 // Two sums of binary32 patterns compared exactly, in the wide format.
+#![tactic(auto)]
 mod numbers;
 pub mod sums;

@@ -1,4 +1,5 @@
 // The three-step sum (FastTwoSum) of two numbers of a binary format, and its check.
+#![tactic(auto)]
 pub mod check;
 mod entry;
 pub mod sum;
@@ -8,7 +9,7 @@ use number::Number;
 
 // x from a + b, z from x - a, y from b - z.
 #[repr(C)]
-#[derive(Drop)]
+#[derive(Clone, Copy)]
 pub struct Steps {
     pub x: Number,
     pub z: Number,
@@ -16,7 +17,7 @@ pub struct Steps {
 }
 
 // The three steps, or the refusal of the first that refuses.
-#[derive(Drop)]
+#[derive(Clone, Copy)]
 pub enum StepsAnswer {
     Triple(Steps),
     Refused(Refusal),

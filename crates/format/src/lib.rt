@@ -1,4 +1,6 @@
 // Number formats: which are admitted, what is prepared from one, the published ones, and the numbered directions and refusals.
+#![tactic(auto)]
+
 pub mod admission;
 pub mod directions;
 pub mod powers;
@@ -10,7 +12,7 @@ pub type Significand = u64;
 
 // Base, digits, lowest and highest exponent of the whole-number significand.
 #[repr(C)]
-#[derive(Drop)]
+#[derive(Clone, Copy)]
 pub struct Format {
     pub base: u32,
     pub digits: u32,
@@ -19,7 +21,7 @@ pub struct Format {
 }
 
 // Why a call is refused, in the order of the papers' numbers, from 1 on.
-#[derive(Drop)]
+#[derive(Clone, Copy)]
 pub enum Refusal {
     FormatNotAdmitted,
     NoSuchDirection,
@@ -43,7 +45,7 @@ pub enum Refusal {
 
 // A base and a number of digits, with the powers that every operation needs: the least normal significand, base ^ (digits - 1), and the
 // bound that every significand is below, base ^ digits.
-#[derive(Drop)]
+#[derive(Clone, Copy)]
 pub struct Scale {
     pub base: u32,
     pub digits: u32,
@@ -52,7 +54,7 @@ pub struct Scale {
 }
 
 // An admitted format with its scale and its highest place, emax - emin.
-#[derive(Drop)]
+#[derive(Clone, Copy)]
 pub struct Prepared {
     pub format: Format,
     pub scale: Scale,
@@ -60,21 +62,21 @@ pub struct Prepared {
 }
 
 // An examined format: prepared, or refused.
-#[derive(Drop)]
+#[derive(Clone, Copy)]
 pub enum Preparation {
     Ready(Prepared),
     Refused(Refusal),
 }
 
 // A format that was asked for by its number.
-#[derive(Drop)]
+#[derive(Clone, Copy)]
 pub enum FormatAnswer {
     Found(Format),
     Refused(Refusal),
 }
 
 // An examination that has no other result.
-#[derive(Drop)]
+#[derive(Clone, Copy)]
 pub enum Verdict {
     Passed,
     Refused(Refusal),

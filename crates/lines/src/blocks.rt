@@ -7,7 +7,7 @@ use crate::printing::put_line;
 use crate::reading::{Line, new_line, push};
 
 // The line that is begun where a block of input ends, and how many bytes were printed for the lines that ended in it.
-#[derive(Drop)]
+#[derive(Clone, Copy)]
 pub struct Block {
     pub line: Line,
     pub printed: usize,

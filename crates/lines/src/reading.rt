@@ -5,7 +5,7 @@ ghost use Rattle.lines.specs.Reading.{fresh, pushed};
 use crate::digits::digit_of;
 
 // What is known of a line that is being read: the number of its digits, or 9 where it is bad, and their value.
-#[derive(Drop)]
+#[derive(Clone, Copy)]
 pub struct Line {
     pub count: u32,
     pub value: u32,

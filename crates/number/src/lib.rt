@@ -1,5 +1,6 @@
 // Numbers of a format: which are in it, the checks that every call begins with, comparison, negation and magnitude; what the patterns
 // of every format share.
+#![tactic(auto)]
 pub mod checks;
 pub mod delivery;
 pub mod exponents;
@@ -12,7 +13,7 @@ use format::{Refusal, Significand};
 
 // The value (-1)^negative * significand * base^exponent.
 #[repr(C)]
-#[derive(Drop)]
+#[derive(Clone, Copy)]
 pub struct Number {
     pub negative: bool,
     pub significand: Significand,
@@ -20,21 +21,21 @@ pub struct Number {
 }
 
 // A number, or why there is none.
-#[derive(Drop)]
+#[derive(Clone, Copy)]
 pub enum NumberAnswer {
     Value(Number),
     Refused(Refusal),
 }
 
 // A pattern of 32 bits, or why there is none.
-#[derive(Drop)]
+#[derive(Clone, Copy)]
 pub enum PatternAnswer {
     Written(u32),
     Refused(Refusal),
 }
 
 // How the first of two numbers stands to the second.
-#[derive(Drop)]
+#[derive(Clone, Copy)]
 pub enum Ordering {
     Less,
     Equal,
@@ -42,14 +43,14 @@ pub enum Ordering {
 }
 
 // That order, or why there is none.
-#[derive(Drop)]
+#[derive(Clone, Copy)]
 pub enum OrderAnswer {
     Ordered(Ordering),
     Refused(Refusal),
 }
 
 // Yes or no, or why there is neither.
-#[derive(Drop)]
+#[derive(Clone, Copy)]
 pub enum CheckAnswer {
     Yes,
     No,

@@ -1,18 +1,19 @@
 // Two logs of one pass: which of them is calmer in a stretch, and that stretch of it.
+#![tactic(auto)]
 mod spread;
 pub mod stretch;
 
 use format::Refusal;
 
 // Patterns of the least and of the greatest value of a list.
-#[derive(Drop)]
+#[derive(Clone, Copy)]
 pub struct Extremes {
     pub least: u32,
     pub greatest: u32,
 }
 
 // Whether a stretch of two logs is refused: 9 comes with its index.
-#[derive(Drop)]
+#[derive(Clone, Copy)]
 pub enum StretchCheck {
     Passed,
     Refused(Refusal),
@@ -20,7 +21,7 @@ pub enum StretchCheck {
 }
 
 // Which log is calmer in a stretch, or why neither is.
-#[derive(Drop)]
+#[derive(Clone, Copy)]
 pub enum Calmer {
     First,
     Second,

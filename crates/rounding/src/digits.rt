@@ -6,7 +6,7 @@ ghost use Rattle.rounding.specs.Digits.{Digits, Extended, factor_of};
 use format::{Scale, Significand};
 
 // A significand with more digits, and how many were added.
-#[derive(Drop)]
+#[derive(Clone, Copy)]
 pub struct Normal {
     pub value: Significand,
     pub shift: u32,

@@ -1,5 +1,6 @@
 // Rump's routes: the first place and the last place of a number by the engine's own operations alone, and by
 // its successor.
+#![tactic(auto)]
 mod constants;
 mod figures;
 mod premises;
@@ -7,7 +8,7 @@ pub mod routes;
 mod successors;
 
 // Figures 1, 3, 4 and 5 of source document 000, without the successor.
-#[derive(Drop)]
+#[derive(Clone, Copy)]
 pub enum Figure {
     First,
     Third,
@@ -16,7 +17,7 @@ pub enum Figure {
 }
 
 // What a line of a figure does with two numbers.
-#[derive(Drop)]
+#[derive(Clone, Copy)]
 pub enum LineOperation {
     Sum,
     Difference,

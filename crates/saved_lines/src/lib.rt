@@ -1,4 +1,5 @@
 // Saved lines: the one nearest to a query, those within reach, and the nearest for each of a row of queries. Offsets are binary32 patterns, and every comparison is one of exact values.
+#![tactic(auto)]
 mod checks;
 mod distances;
 pub mod nearest;
@@ -9,7 +10,7 @@ mod search;
 use format::Refusal;
 
 // A check of a list and of the numbers beside it. Refusal 9 of the list comes with the index of the first bad pattern.
-#[derive(Drop)]
+#[derive(Clone, Copy)]
 pub enum Check {
     Passed,
     Refused(Refusal),
@@ -17,7 +18,7 @@ pub enum Check {
 }
 
 // A position, or a number of positions or lines.
-#[derive(Drop)]
+#[derive(Clone, Copy)]
 pub enum LineAnswer {
     Found(u32),
     Refused(Refusal),
@@ -25,7 +26,7 @@ pub enum LineAnswer {
 }
 
 // A test of an offset v that, on a list that ascends, fails up to some position and passes from there on.
-#[derive(Drop)]
+#[derive(Clone, Copy)]
 pub enum Sought {
     // v is at least the number
     AtLeast(u32),

@@ -15,7 +15,7 @@ use binary32::finite::are_finite;
 use format::Refusal;
 
 // The positions from `first` up to `end`; those up to `split` are below the query.
-#[derive(Drop)]
+#[derive(Clone, Copy)]
 pub struct Range {
     pub first: usize,
     pub split: usize,

@@ -12,7 +12,7 @@ use binary32::finite::first_not_finite;
 use format::Refusal;
 
 // How far a walk went, and how many lines it looked at.
-#[derive(Drop)]
+#[derive(Clone, Copy)]
 pub struct Walked {
     pub ahead: usize,
     pub looked: usize,

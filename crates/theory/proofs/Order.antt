@@ -15,6 +15,7 @@ Under a b = above a + below b < above b + below a
 
 holds : (t : Bool) → T t → t ≡ true
 holds true h = refl
+holds false h = elim h [ ]
 
 pub le_true : (a b : ℤ) → le_z a b ≡ true → Upto a b
 le_true a b h = le_parts (le_z_yes {a = a} {b = b} (subst T (sym h) tt))

@@ -12,7 +12,7 @@ use number::exponents::place_of;
 use number::signs::with_sign;
 use number::{Number, NumberAnswer};
 
-#[derive(Drop)]
+#[derive(Clone, Copy)]
 enum Place {
     First,
     Last,

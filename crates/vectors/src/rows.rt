@@ -12,7 +12,7 @@ use number::{Number, NumberAnswer};
 use std::num::wrapping_add_u64;
 
 // How many rows agree, and how many there are.
-#[derive(Drop)]
+#[derive(Clone, Copy)]
 pub struct Tally {
     pub agree: u64,
     pub all: u64,

@@ -14,7 +14,7 @@ use rounding::{Cut, Rounding, Wide};
 use theory::{Direction, Location, Mark};
 
 // What is left when `count` digits are dropped, and the location of these.
-#[derive(Drop)]
+#[derive(Clone, Copy)]
 pub struct Dropped {
     pub steps: u64,
     pub location: Location,

@@ -11,14 +11,14 @@ use rounding::{Cut, Rounding};
 use theory::{Direction, Location};
 
 // The divisor d * base ^ place, which is above n.
-#[derive(Drop)]
+#[derive(Clone, Copy)]
 pub struct Aligned {
     pub divisor: u64,
     pub place: u32,
 }
 
 // quotient + remainder / divisor, in steps of base ^ place. Places count from the lowest that the format keeps.
-#[derive(Drop)]
+#[derive(Clone, Copy)]
 pub struct Division {
     pub quotient: Significand,
     pub remainder: u64,

@@ -18,14 +18,14 @@ use two_words::product::product;
 use two_words::quotient::divide;
 
 // The cut of a quotient, and how many of its digits were worked out.
-#[derive(Drop)]
+#[derive(Clone, Copy)]
 pub struct CountedCut {
     pub cut: Cut,
     pub digits: u32,
 }
 
 // A rounded quotient, and how many of its digits were worked out.
-#[derive(Drop)]
+#[derive(Clone, Copy)]
 pub struct CountedRounding {
     pub rounding: Rounding,
     pub digits: u32,

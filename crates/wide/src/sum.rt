@@ -16,14 +16,14 @@ use theory::{Direction, Location};
 use two_words::WordQuotient;
 
 // A sign, and the cut of a magnitude.
-#[derive(Drop)]
+#[derive(Clone, Copy)]
 pub struct SignedCut {
     pub negative: bool,
     pub cut: Cut,
 }
 
 // The whole number of units given - taken, and a rest.
-#[derive(Drop)]
+#[derive(Clone, Copy)]
 pub struct UnitSum {
     pub given: u64,
     pub taken: u64,
