@@ -2,6 +2,7 @@
 // format: the exact result, rounded once in a direction, and its mark; of a quotient also how many of its digits were worked out. Each
 // module has the operation on a prepared format, with the mark and without, and the call, which takes anything.
 #![tactic(auto)]
+
 pub mod conversion;
 pub mod fraction;
 pub mod operands;

@@ -1,5 +1,6 @@
 // Arithmetic on binary32 patterns: sum, difference, product and quotient of two patterns, and the sum of two slices.
 #![tactic(auto)]
+
 pub mod operations;
 pub mod slices;
 

@@ -1,5 +1,6 @@
 // The strips of a boundary summed from the first on, each step a three-step sum, on binary32 patterns.
 #![tactic(auto)]
+
 mod small;
 mod steps;
 pub mod sum;

@@ -1,5 +1,6 @@
 // The engine for C: one static library, whose header is include/zurkeb.h. A struct goes by value; the answers are those of `answers`.
 #![tactic(auto)]
+
 pub mod answers;
 pub mod boundary;
 pub mod lines;

@@ -1,5 +1,6 @@
 // decimal32 patterns in densely packed form, IEEE 754 clause 3.5: a sign bit, a combination field of 11 bits, two declets.
 #![tactic(auto)]
+
 mod declets;
 mod prepared;
 pub mod reading;

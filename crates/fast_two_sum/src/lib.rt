@@ -1,5 +1,6 @@
 // The three-step sum (FastTwoSum) of two numbers of a binary format, and its check.
 #![tactic(auto)]
+
 pub mod check;
 mod entry;
 pub mod sum;

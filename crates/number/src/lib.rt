@@ -1,6 +1,7 @@
 // Numbers of a format: which are in it, the checks that every call begins with, comparison, negation and magnitude; what the patterns
 // of every format share.
 #![tactic(auto)]
+
 pub mod checks;
 pub mod delivery;
 pub mod exponents;

@@ -1,5 +1,6 @@
 // Two logs of one pass: which of them is calmer in a stretch, and that stretch of it.
 #![tactic(auto)]
+
 mod spread;
 pub mod stretch;
 

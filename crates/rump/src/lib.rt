@@ -1,6 +1,7 @@
 // Rump's routes: the first place and the last place of a number by the engine's own operations alone, and by
 // its successor.
 #![tactic(auto)]
+
 mod constants;
 mod figures;
 mod premises;

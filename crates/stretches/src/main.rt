@@ -1,6 +1,7 @@
 // Stretches of two logs: for each a line with its start and length, the patterns of the part that `calmer_stretch` hands back, and what
 // `calmer_refusal` tells. What the two calls answer is proved; what is printed is compared.
 #![tactic(auto)]
+
 use format::refusals::refusal_number;
 use libc::STDOUT_FILENO;
 use receivers::StretchCheck;

@@ -1,5 +1,6 @@
 // Numbers of two words of 64 bits, for what is wider than a significand: products, orders, and quotients by one word.
 #![tactic(auto)]
+
 pub mod orders;
 pub mod product;
 pub mod quotient;

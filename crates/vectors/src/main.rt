@@ -1,6 +1,7 @@
 // The vectors: each row of standard input is a call and its answer. The program makes the call, compares, and prints how many rows
 // agree, and how many there are. What a row is, whether it agrees and how many do are proved; what is printed is compared.
 #![tactic(auto)]
+
 mod calls;
 mod columns;
 mod rows;

@@ -14,19 +14,16 @@ last emin emax low order = rw (make_le (negsuc 1199) emin low, make_le emin emax
 
 pub returns-then-emin-ltminus1200 : goal.returns-then-emin-ltminus1200
 returns-then-emin-ltminus1200 c =
-    let s = c.before in
-    let t = lt_taken s.args.emin (negsuc 1199) s.ranges.emin (sfits_lit tt) c.if-emin-ltminus1200.true in
+    let t = lt_taken c.args.emin (negsuc 1199) c.ranges.emin (sfits_lit tt) c.if-emin-ltminus1200.true in
     refuted (λ h. let e = exponents _ _ h in omega arith)
 
 pub returns-then-emax-emin : goal.returns-then-emax-emin
 returns-then-emax-emin c =
-    let s = c.before.before in
-    let t = lt_taken s.args.emax s.args.emin s.ranges.emax s.ranges.emin c.if-emax-emin.true in
+    let t = lt_taken c.args.emax c.args.emin c.ranges.emax c.ranges.emin c.if-emax-emin.true in
     refuted (λ h. let e = exponents _ _ h in omega arith)
 
 pub returns : goal.returns
 returns c =
-    let s = c.before.before in
-    let low = lt_left s.args.emin (negsuc 1199) s.ranges.emin (sfits_lit tt) c.if-emin-ltminus1200.false in
-    let order = lt_left s.args.emax s.args.emin s.ranges.emax s.ranges.emin c.if-emax-emin.false in
-    le_read s.args.emax (pos 1200) s.ranges.emax (sfits_lit tt) ∙ last s.args.emin s.args.emax low order
+    let low = lt_left c.args.emin (negsuc 1199) c.ranges.emin (sfits_lit tt) c.if-emin-ltminus1200.false in
+    let order = lt_left c.args.emax c.args.emin c.ranges.emax c.ranges.emin c.if-emax-emin.false in
+    le_read c.args.emax (pos 1200) c.ranges.emax (sfits_lit tt) ∙ last c.args.emin c.args.emax low order

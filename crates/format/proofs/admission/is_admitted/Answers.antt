@@ -8,12 +8,6 @@ use Rattle.format.proofs.Signed.{back}
 use Rattle.format.proofs.Formats.{admits}
 use Rattle.format.proofs.admission.is_admitted.Goals as goal
 
-emin-fits : (c : goal.Start) → SFits w32 c.args.format.emin
-emin-fits c = search rules
-
-emax-fits : (c : goal.Start) → SFits w32 c.args.format.emax
-emax-fits c = search rules
-
 -- the exponents decide where the base and the digits pass
 last : (f : Format) → 2 ≤ f.base → f.base ≤ 256 → 1 ≤ f.digits → f.digits ≤ 63 → leb (f.base ^ f.digits) greatest_power ≡ true
     → exponents_admitted f.emin f.emax ≡ admitted f
@@ -21,19 +15,14 @@ unfolding admitted ◌and◌
 last f b₁ b₂ d₁ d₂ p = rw (le-leb _ _ b₁, le-leb _ _ b₂, le-leb _ _ d₁, le-leb _ _ d₂, p, ◌and◌)
 
 pub returns-then-not-fits : goal.returns-then-not-fits
-returns-then-not-fits c =
-    refuted (λ h. never (sym (le-leb _ _ (admits _ h).power_high) ∙ denied c.fits2.ensures c.if-not-fits.true-raw))
+returns-then-not-fits c = refuted (λ h. never (sym (le-leb _ _ (admits _ h).power_high) ∙ denied c.fits.ensures c.if-not-fits.true-raw))
 
 pub returns : goal.returns
 returns c =
-    let c₅ = c.before.before.before in
-    let c₄ = c₅.before.before in
-    let c₃ = c₄.before in
-    let c₂ = c₃.before in
-    let c₁ = c₂.before in
-    let s = c₁.before in
-    (c.exponents_admitted.ensures ∙ rw (back (emin-fits s), back (emax-fits s)))
-    ∙ last s.args.format c₁.if-base-lt2.false c₂.if-base-gt256.false c₃.if-digits-lt1.false c₄.if-digits-gt63.false (granted c₅.fits2.ensures c₅.if-not-fits.false-raw)
+    let emin-fits : SFits w32 c.args.format.emin = search rules in
+    let emax-fits : SFits w32 c.args.format.emax = search rules in
+    (c.exponents_admitted.ensures ∙ rw (back emin-fits, back emax-fits))
+    ∙ last c.args.format c.if-base-lt2.false c.if-base-gt256.false c.if-digits-lt1.false c.if-digits-gt63.false (granted c.fits.ensures c.if-not-fits.false-raw)
 
 pub returns-then-base-lt2 : goal.returns-then-base-lt2
 returns-then-base-lt2 c = refuted (λ h. let a = admits _ h in omega arith)

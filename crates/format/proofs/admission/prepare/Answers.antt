@@ -8,15 +8,6 @@ use Rattle.format.proofs.Signed.{back}
 use Rattle.format.proofs.Formats.{Admitted, admits, exponents_made, bound_least, least_bound}
 use Rattle.format.proofs.admission.prepare.Goals as goal
 
-emin-fits : (c : goal.Start) → SFits w32 c.args.format.emin
-emin-fits c = search rules
-
-emax-fits : (c : goal.Start) → SFits w32 c.args.format.emax
-emax-fits c = search rules
-
-passed : (c : goal.Else-not-is_admitted) → Admitted c.args.format
-passed c = admits _ (granted c.is_admitted.ensures c.if-not-is_admitted.false-raw)
-
 -- what was worked out is what is to be prepared
 worked-out : (f : Format) → Admitted f → (least highest : ℕ) → least ≡ f.base ^ (f.digits - 1) → highest ≡ highest_place f
     → record { format = f; scale = record { base = f.base; digits = f.digits; least = least; bound = least * f.base }; highest = highest } ≡ prepared_of f
@@ -27,26 +18,34 @@ unfolding preparation
 returns-then-not-is_admitted c = sym (unless_failed _ _ (denied c.is_admitted.ensures c.if-not-is_admitted.true-raw))
 
 pub power-least-requires : goal.power-least-requires
-power-least-requires c = let a = passed c in (a.base_low, a.base_high, le_trans (least_bound a) a.power_high)
+power-least-requires c =
+    let passed : Admitted c.args.format = admits _ (granted c.is_admitted.ensures c.if-not-is_admitted.false-raw) in
+    let a = passed in (a.base_low, a.base_high, le_trans (least_bound a) a.power_high)
 
 pub overflow_mul-bound : goal.overflow_mul-bound
-overflow_mul-bound c = let a = passed c.before in rw (c.power-least.ensures, ← bound_least a) (omega arith)
+overflow_mul-bound c =
+    let passed : Admitted c.args.format = admits _ (granted c.is_admitted.ensures c.if-not-is_admitted.false-raw) in
+    let a = passed in rw (c.power-least.ensures, ← bound_least a) (omega arith)
 
 pub distance-requires : goal.distance-requires
 distance-requires c =
-    let p = c.before.before.before in
-    let s = p.before.before in
-    rw (back (emin-fits s), back (emax-fits s)) (exponents_made (passed p).range)
+    let emin-fits : SFits w32 c.args.format.emin = search rules in
+    let emax-fits : SFits w32 c.args.format.emax = search rules in
+    let passed : Admitted c.args.format = admits _ (granted c.is_admitted.ensures c.if-not-is_admitted.false-raw) in
+    rw (back emin-fits, back emax-fits) (exponents_made passed.range)
 
 pub returns : goal.returns
 unfolding preparation
 returns c =
-    let p = c.before.before.before.before in
-    let s = p.before.before in
+    let emin-fits : SFits w32 c.args.format.emin = search rules in
+    let emax-fits : SFits w32 c.args.format.emax = search rules in
+    let passed : Admitted c.args.format = admits _ (granted c.is_admitted.ensures c.if-not-is_admitted.false-raw) in
     ap Ready
-    (worked-out s.args.format (passed p) _ _ c.power-least.ensures
-    (c.distance.ensures ∙ rw (back (emin-fits s), back (emax-fits s))))
-    ∙ sym (unless_passed _ _ (granted p.is_admitted.ensures p.if-not-is_admitted.false-raw))
+    (worked-out c.args.format passed _ _ c.power-least.ensures
+    (c.distance.ensures ∙ rw (back emin-fits, back emax-fits)))
+    ∙ sym (unless_passed _ _ (granted c.is_admitted.ensures c.if-not-is_admitted.false-raw))
 
 pub overflow_sub-digits : goal.overflow_sub-digits
-overflow_sub-digits c = (passed c).digits_low
+overflow_sub-digits c =
+    let passed : Admitted c.args.format = admits _ (granted c.is_admitted.ensures c.if-not-is_admitted.false-raw) in
+    passed.digits_low

@@ -15,19 +15,19 @@ last (suc (suc (suc (suc d)))) h = refl
 
 pub returns-in-0 : goal.returns-in-0
 unfolding direction
-returns-in-0 c = ap direction (sym c.in_default.keys1)
+returns-in-0 c = ap direction (sym c.in-0.is)
 
 pub returns-in-1 : goal.returns-in-1
 unfolding direction
-returns-in-1 c = ap direction (sym c.in_default.keys2)
+returns-in-1 c = ap direction (sym c.in-1.is)
 
 pub returns-in-2 : goal.returns-in-2
 unfolding direction
-returns-in-2 c = ap direction (sym c.in_default.keys3)
+returns-in-2 c = ap direction (sym c.in-2.is)
 
 pub returns-in-3 : goal.returns-in-3
 unfolding direction
-returns-in-3 c = ap direction (sym c.in_default.keys4)
+returns-in-3 c = ap direction (sym c.in-3.is)
 
 pub returns-in_default : goal.returns-in_default
-returns-in_default c = let r = c.in_default.rest in last c.args.number (omega (arith, r.0.0.0.1, r.0.0.1, r.0.1, r.1))
+returns-in_default c = last c.args.number (omega arith)

@@ -6,11 +6,7 @@ use Rattle.format.proofs.Limits.{limit_test}
 use Rattle.format.proofs.powers.fits.Goals as goal
 
 pub returns-then-base-eq2 : goal.returns-then-base-eq2
-returns-then-base-eq2 c =
-    let s = c.before in
-    sym (ap (λ (b : ℕ). leb (b ^ s.args.k) greatest_power) c.if-base-eq2.true ∙ le-leb _ _ (pow-le-pow_right {n = 2} (omega arith) s.requires.1))
+returns-then-base-eq2 c = sym (ap (λ (b : ℕ). leb (b ^ c.args.k) greatest_power) c.if-base-eq2.true ∙ le-leb _ _ (pow-le-pow_right {n = 2} (omega arith) c.requires.1))
 
 pub returns : goal.returns
-returns c =
-    let s = c.before.before in
-    ap (λ (l : ℕ). leb s.args.base l) c.limit.ensures ∙ limit_test s.args.base s.args.k (omega (arith, s.requires.1)) s.requires.0
+returns c = ap (λ (l : ℕ). leb c.args.base l) c.limit.ensures ∙ limit_test c.args.base c.args.k (omega (arith, c.requires.1)) c.requires.0

@@ -26,6 +26,5 @@ bit-zeros (suc k) n some l = by (n % 2) refl (bit-zeros k (n / 2))
 
 pub returns-then-base-eq2 : goal.returns-then-base-eq2
 returns-then-base-eq2 c =
-    let s = c.before in
     let two : 2 ≤ 2 = omega arith in
-    sym (ends_zeros two s.requires.1 (bit-zeros 64 s.args.m s.requires.1 (search rules))) ∙ ap (λ (b : ℕ). zeros b s.args.m) (sym c.if-base-eq2.true)
+    sym (ends_zeros two c.requires.1 (bit-zeros 64 c.args.m c.requires.1 (search rules))) ∙ ap (λ (b : ℕ). zeros b c.args.m) (sym c.if-base-eq2.true)

@@ -24,19 +24,16 @@ shorter β rest h l e =
 
 pub overflow_add-count : goal.overflow_add-count
 overflow_add-count c =
-    let s = c.before.before in
     let i = c.loop-rest.invariant in
-    omega (arith, room 64 {rest = c.loop-rest.rest} {count = c.loop-rest.count} s.requires.0 i.0 i.1 (search rules))
-
--- a turn of the loop
-turn : (c : goal.In-loop-rest) → let β = c.args.base in let rest = c.loop-rest.rest in (rest / β < rest) × (1 ≤ rest / β) × (rest ≡ rest / β * β)
-turn c = shorter c.args.base c.loop-rest.rest c.requires.0 c.loop-rest.invariant.1 c.loop-rest-test.true
+    omega (arith, room 64 {rest = c.loop-rest.rest} {count = c.loop-rest.count} c.requires.0 i.0 i.1 (search rules))
 
 moved : (β : ℕ) {m rest : ℕ} (count : ℕ) → m ≡ rest * β ^ count → rest ≡ rest / β * β → m ≡ rest / β * β ^ (count + 1)
 moved β {m} {rest} count e r = e ∙ ap (λ (v : ℕ). v * β ^ count) r ∙ rw (add-one, pow-suc) (omega arith)
 
 pub loop-rest-preserved : goal.loop-rest-preserved
-loop-rest-preserved c = let t = turn c in (moved c.args.base c.loop-rest.count c.loop-rest.invariant.0 t.2, t.1)
+loop-rest-preserved c =
+    let turn : let β = c.args.base in let rest = c.loop-rest.rest in (rest / β < rest) × (1 ≤ rest / β) × (rest ≡ rest / β * β) = shorter c.args.base c.loop-rest.rest c.requires.0 c.loop-rest.invariant.1 c.loop-rest-test.true in
+    let t = turn in (moved c.args.base c.loop-rest.count c.loop-rest.invariant.0 t.2, t.1)
 
 -- no zero is left
 ended : (β m rest count : ℕ) → 2 ≤ β → m ≡ rest * β ^ count → (rest % β ≡ 0 → ⊥) → Ends β m count
@@ -48,9 +45,8 @@ ended β m rest count h e n =
 
 pub returns : goal.returns
 returns c =
-    let s = c.before.before in
     let i = c.loop-rest.invariant in
-    sym (ends_zeros s.requires.0 s.requires.1 (ended s.args.base s.args.m c.loop-rest.rest c.loop-rest.count s.requires.0 i.0 c.loop-rest-test.false))
+    sym (ends_zeros c.requires.0 c.requires.1 (ended c.args.base c.args.m c.loop-rest.rest c.loop-rest.count c.requires.0 i.0 c.loop-rest-test.false))
 
 pub loop-rest-init : goal.loop-rest-init
 loop-rest-init c = (rw (pow-zero, mul-one), c.requires.1)
@@ -62,4 +58,6 @@ pub nonzero_div-rest : goal.nonzero_div-rest
 nonzero_div-rest c = omega (arith, c.requires.0)
 
 pub loop-rest-smaller : goal.loop-rest-smaller
-loop-rest-smaller c = (turn c).0
+loop-rest-smaller c =
+    let turn : let β = c.args.base in let rest = c.loop-rest.rest in (rest / β < rest) × (1 ≤ rest / β) × (rest ≡ rest / β * β) = shorter c.args.base c.loop-rest.rest c.requires.0 c.loop-rest.invariant.1 c.loop-rest-test.true in
+    turn.0
