@@ -1,5 +1,5 @@
 -- What an admitted format has, as facts on natural numbers that `omega` reads, and how it is made.
-use Rattle.theory.proofs.Prelude.{◌≤◌, ◌+◌, ◌^◌, ◌*◌, ◌-◌, true, ◌∙◌, ap, ◌≡◌, refl, mul_comm, arith, leb, ℤ, pos, ◌-ℤ◌, negsuc, le_z, le-leb, leb-true}
+use Rattle.theory.proofs.Prelude.{◌≤◌, ◌+◌, ◌^◌, ◌*◌, ◌-◌, true, ◌∙◌, ◌≡◌, refl, mul_comm, arith, ℤ, pos, ◌-ℤ◌, negsuc, le_z, le-leb, leb-true}
 use Rattle.theory.proofs.Words.{◌and◌, Positional}
 use Rattle.theory.proofs.Tests.{and_left, and_right, and_made}
 use Rattle.theory.proofs.Integers.{above, below, diff_parts}

@@ -1,5 +1,5 @@
 -- The limit of each exponent, by one computed test over all of them: its power is within 2 ^ 63, and that of the next base is not.
-use Rattle.theory.proofs.Prelude.{ℕ, ◌≤◌, ◌<◌, ◌+◌, ◌*◌, ◌/◌, ◌%◌, ◌^◌, ◌-◌, suc, zero, true, false, Bool, ⊎_elim, ◌≡◌, sym, refl, subst, ℕ_discrete, le_trans, pow-le-pow_left, arith, eqb, leb, ltb, le-leb, leb-true, lt-leb, leb-false, eqb-true, ltb-true}
+use Rattle.theory.proofs.Prelude.{ℕ, ◌≤◌, ◌<◌, ◌+◌, ◌*◌, ◌/◌, ◌%◌, ◌^◌, suc, zero, true, false, Bool, ⊎_elim, ◌≡◌, sym, refl, subst, ℕ_discrete, le_trans, pow-le-pow_left, arith, eqb, leb, ltb, le-leb, leb-true, lt-leb, leb-false, eqb-true, ltb-true}
 use native.Mathlib.Nat.{not-suc-le-zero}
 use Rattle.theory.specs.Tests.{◌and◌, ◌or◌}
 use Rattle.theory.proofs.Tests.{and_left, and_right, or_cases}

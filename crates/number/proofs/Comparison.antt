@@ -1,9 +1,9 @@
 -- The order of numbers is the order of their values: first by sign, then by exponent, then by significand.
-use Rattle.theory.proofs.Prelude.{ℕ, ◌≤◌, ◌<◌, ◌+◌, ◌^◌, ◌*◌, ◌-◌, suc, zero, true, false, Bool, ◌≢◌, ap, ◌≡◌, refl, ap₂, mul-pos, mul-lt-mul_of_pos_right, pow-succ', mul-le-mul, arith, ltb, ℤ, pos, ◌-ℤ◌, neg_ℤ, lt_z, ◌<ℤ◌, le-ltb, lt-ltb, ltb-true, ltb-false}
+use Rattle.theory.proofs.Prelude.{ℕ, ◌≤◌, ◌<◌, ◌+◌, ◌^◌, ◌*◌, ◌-◌, true, false, Bool, ◌≢◌, ◌≡◌, refl, ap₂, mul-pos, mul-lt-mul_of_pos_right, pow-succ', mul-le-mul, arith, ltb, ℤ, pos, ◌-ℤ◌, neg_ℤ, lt_z, ◌<ℤ◌, le-ltb, lt-ltb, ltb-true, ltb-false}
 use Rattle.theory.specs.Signed.{signed}
 use Rattle.theory.proofs.Integers.{above, below, neg_above, neg_below, diff_parts, size_parts, parts_eq, parts_lt, lt_parts}
 use Rattle.theory.proofs.Powers.{pow_pos, pow_pred, pow_mono}
-use Rattle.number.proofs.Prelude.{Format, Admitted, place_of, magnitude, value, Member}
+use Rattle.number.proofs.Prelude.{Format, Admitted, place_of, magnitude, Member}
 use Rattle.number.specs.declared.Number.{Number}
 use Rattle.format.proofs.Signed.{Upto, Under, apart, lt_true, lt_false, make_lt, make_ge}
 use Rattle.number.specs.declared.Ordering.{Ordering}

@@ -1,5 +1,5 @@
 -- The numbers of a format: what membership says, as facts that `omega` reads, and how it is made.
-use Rattle.theory.proofs.Prelude.{◌≤◌, ◌<◌, ◌^◌, ◌-◌, true, false, Bool, ⊎_elim, ◌⊎◌, ◌∙◌, ap, ◌≡◌, sym, refl, subst, arith, eqb, leb, ltb, ℤ, le_z, eq-eqb, le-leb, leb-true, leb-false, eqb-true, lt-ltb, ltb-true, eqb-false}
+use Rattle.theory.proofs.Prelude.{◌≤◌, ◌<◌, ◌^◌, ◌-◌, true, false, Bool, ⊎_elim, ◌∙◌, ap, ◌≡◌, sym, refl, subst, arith, eqb, leb, ltb, ℤ, le_z, eq-eqb, le-leb, leb-true, leb-false, eqb-true, lt-ltb, ltb-true, eqb-false}
 use Rattle.theory.specs.Tests.{◌and◌, ◌or◌}
 use Rattle.theory.proofs.Tests.{never, and_left, and_right, and_made, or_cases, or_left, or_right, refuted}
 use Rattle.theory.proofs.Integers.{above, below, parts_eq}

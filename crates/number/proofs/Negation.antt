@@ -1,6 +1,5 @@
 -- Negation turns the sign, of zero and of the value, negating twice gives the number back, and the magnitude has the value without its sign.
 use Rattle.theory.proofs.Prelude.{ℕ, ◌≤◌, true, false, Bool, not, ◌∙◌, ◌≡◌, sym, refl, ap₂, pos, neg_ℤ}
-use Rattle.theory.specs.Signed.{signed}
 use Rattle.theory.specs.Wide.{Wide}
 use Rattle.theory.proofs.Integers.{negate_signed}
 use Rattle.number.proofs.Prelude.{Format, Given, gives, Admitted, magnitude, value, greatest, number, Member, member_made, one_checked}

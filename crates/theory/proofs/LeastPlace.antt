@@ -1,5 +1,5 @@
 -- Laws of uls: it divides n, and no greater power of β does.
-use Rattle.theory.proofs.Prelude.{ℕ, ◌≤◌, ◌<◌, ◌+◌, ◌^◌, ◌*◌, ◌-◌, suc, zero, ◌%◌, true, false, Bool, not, ap, ◌≡◌, sym, mul-le-mul_left, le_antisymm, le_of_suc-le-suc, lt_of_not-le, add-suc, arith, eqb, T}
+use Rattle.theory.proofs.Prelude.{ℕ, ◌≤◌, ◌<◌, ◌+◌, ◌^◌, ◌*◌, suc, zero, ◌%◌, true, false, Bool, not, ap, ◌≡◌, mul-le-mul_left, le_antisymm, le_of_suc-le-suc, lt_of_not-le, add-suc, arith, eqb, T}
 use native.Mathlib.Nat.{mod-eq_of_lt}
 use lib.Dec.{eqb→eq}
 use mir.Facts.{eqb_no}

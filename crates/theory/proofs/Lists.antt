@@ -1,6 +1,6 @@
 -- Laws of a list and a test, for every test.
 use Rattle.theory.proofs.Prelude.{ℕ, ◌≤◌, ◌<◌, ◌+◌, ◌-◌, suc, zero, true, false, Bool, cond, [], ◌∷◌, List, ⊎_elim, ◌∙◌, ap, ◌≡◌, sym, refl, subst, dec_le, eq-or-lt_of_le, arith, length, get_or, le-leb, leb-true}
-use Rattle.theory.specs.Tests.{◌and◌, ◌or◌}
+use Rattle.theory.specs.Tests.{◌or◌}
 use Rattle.theory.proofs.Tests.{never, and_left, and_right, and_made}
 use Rattle.theory.specs.Lists.{all, first_where, none, some_neighbours, numbers}
 

@@ -1,9 +1,9 @@
 -- Directions 0 and 1 at a tie, where the value lies exactly in the middle of its two neighbours, n and n + 1 times the step
 -- between them: direction 0 takes the even one of n and n + 1, direction 1 the one away from zero.
-use Rattle.theory.proofs.Prelude.{ℕ, ◌≤◌, ◌<◌, ◌+◌, ◌^◌, ◌*◌, ◌-◌, ◌%◌, ◌/◌, Bool, ◌∙◌, ap, ◌≡◌, sym, ap₂, mul-le-mul_right, mul-pos, le_trans, le_antisymm, lt_of_mul-lt-mul_right, le-div_iff_mul-le, le_of_mul-le-mul_right, mul-div_cancel, div-mul-le_self, arith, eqb, ne_eqb, eq-eqb}
+use Rattle.theory.proofs.Prelude.{ℕ, ◌≤◌, ◌<◌, ◌+◌, ◌^◌, ◌*◌, ◌%◌, ◌/◌, Bool, ◌∙◌, ap, ◌≡◌, ap₂, mul-le-mul_right, mul-pos, le_trans, le_antisymm, lt_of_mul-lt-mul_right, le-div_iff_mul-le, le_of_mul-le-mul_right, mul-div_cancel, div-mul-le_self, arith, eqb, ne_eqb, eq-eqb}
 use native.Mathlib.Nat.{lt_of_le_of_lt}
 use Rattle.theory.proofs.Words.{Positional, place, step, Wide, lower_q, upper_q}
-use Rattle.theory.specs.Round.{Direction, NearestEven, NearestAway, Half, location, chosen, takes_upper, round, Tie}
+use Rattle.theory.specs.Round.{NearestEven, NearestAway, Half, location, chosen, takes_upper, round, Tie}
 use Rattle.theory.proofs.Multiples.{multiple_of, multiple_power, multiple_le, multiple_gap}
 use Rattle.theory.proofs.Place.{place_fits, place_mono, step_pos}
 use Rattle.theory.proofs.Wide.{wide_low, wide_multiple}
