@@ -1,6 +1,6 @@
 -- How the places and the neighbours of a number are written: a significand and a place, in canonical form.
 use Rattle.theory.proofs.Prelude.{ℕ, ◌≤◌, ◌<◌, ◌+◌, ◌^◌, ◌*◌, ◌-◌, suc, zero, ⊎_elim, inl, inr, ◌⊎◌, ◌∙◌, ap, ◌≡◌, sym, refl, subst, mul-le-mul_right, mul-le-mul_left, pow-zero, pow-succ', le_of_mul-le-mul_left, add-one, arith}
-use Rattle.theory.proofs.Words.{Positional, Wide, Canonical, lower, upper, ufp, ulp}
+use Rattle.theory.proofs.Words.{Positional, Wide, Canonical, lower, upper, ufp}
 use Rattle.theory.proofs.Powers.{pow-add, pow_pos, pow_pred, pow_half, pow_lt}
 use Rattle.theory.proofs.Multiples.{multiple_of}
 use Rattle.theory.proofs.Wide.{wide_pow}

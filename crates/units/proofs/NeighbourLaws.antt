@@ -1,7 +1,7 @@
 -- The predecessor is the greatest number of the format below x, the successor the least above; refusal 5 exactly where there is
 -- none. They undo each other, and the one is minus the other of minus x.
 use Rattle.theory.proofs.Prelude.{ℕ, ◌≤◌, ◌<◌, ◌+◌, suc, zero, true, false, Bool, not, ⊎_elim, inl, inr, ◌⊎◌, ◌∙◌, ap, ◌≡◌, sym, refl, subst, le_of_suc-le-suc, lt_of_not-le, arith, leb, ℤ, pos, negsuc, nat_abs, ◌<ℤ◌, ◌≤ℤ◌, leb-true, leb-false}
-use Rattle.theory.proofs.Words.{Wide, signed, WideZ, predecessor, successor}
+use Rattle.theory.proofs.Words.{Wide, WideZ, predecessor, successor}
 use Rattle.theory.specs.Signed.{sign_or}
 use Rattle.theory.specs.Faithful.{GreatestBelow, LeastAbove}
 use Rattle.theory.proofs.Wide.{wide_zero}

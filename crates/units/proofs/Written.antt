@@ -1,5 +1,5 @@
 -- The places of a number of the format, as the code writes them.
-use Rattle.theory.proofs.Prelude.{ℕ, ◌≤◌, ◌<◌, ◌+◌, ◌^◌, ◌*◌, ◌-◌, suc, zero, false, not, ◌∙◌, ap, ◌≡◌, sym, zero-mul, lt_of_not-le, arith, ℤ, pos}
+use Rattle.theory.proofs.Prelude.{ℕ, ◌≤◌, ◌<◌, ◌+◌, ◌^◌, ◌*◌, suc, zero, false, ◌∙◌, ap, ◌≡◌, sym, zero-mul, lt_of_not-le, arith, ℤ}
 use Rattle.theory.proofs.Words.{Canonical, ufp, ulp, uls, zeros}
 use Rattle.theory.proofs.Powers.{pow_mono}
 use Rattle.theory.proofs.Units.{ufp_shift, ulp_canonical}
