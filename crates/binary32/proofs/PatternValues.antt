@@ -1,6 +1,6 @@
 -- The values of patterns as whole multiples of 2 ^ -149: that of a finite pattern is the value of the number read, keys are in the
 -- order of the values, and what a list of patterns says of the list of its values.
-use Rattle.theory.proofs.Prelude.{ℕ, ◌≤◌, ◌<◌, ◌^◌, ◌-◌, ◌%◌, true, false, Bool, not, List, map, ◌∙◌, ap, ◌≡◌, sym, refl, ap₂, dec_le, arith, eqb, ltb, pos, nat_abs, length, get_or, length-map, lt_z, ne_eqb, eq-eqb, le-ltb, lt-ltb, not-true, not-false}
+use Rattle.theory.proofs.Prelude.{ℕ, ◌≤◌, ◌<◌, ◌^◌, ◌%◌, true, false, Bool, not, List, map, ◌∙◌, ap, ◌≡◌, sym, refl, ap₂, dec_le, arith, eqb, ltb, pos, nat_abs, length, get_or, length-map, lt_z, ne_eqb, eq-eqb, le-ltb, lt-ltb, not-true, not-false}
 use lib.ListN.{get_or-map}
 use Rattle.theory.specs.Lists.{none}
 use Rattle.theory.specs.Tests.{◌and◌}

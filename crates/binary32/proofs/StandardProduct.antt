@@ -1,5 +1,5 @@
 -- The product and the quotient of finite patterns to nearest, ties to even, are those of lib.Ieee.
-use Rattle.theory.proofs.Prelude.{ℕ, ◌≤◌, ◌^◌, ◌*◌, suc, zero, true, false, Bool, cond, not, xor, ◌∙◌, ap, ◌≡◌, sym, refl, ap₂, mul-le-mul_right, mul-pos, arith, eqb, pos, ne_eqb}
+use Rattle.theory.proofs.Prelude.{ℕ, ◌≤◌, ◌^◌, ◌*◌, suc, zero, true, false, Bool, cond, xor, ◌∙◌, ap, ◌≡◌, sym, refl, ap₂, mul-le-mul_right, mul-pos, arith, eqb, ne_eqb}
 use lib.Ieee as ieee
 use lib.Ieee.{Float, nan, inf, fin, up, down, unlike, mul, div, of_bits}
 use lib.Ieee.Exact.{HasValue}

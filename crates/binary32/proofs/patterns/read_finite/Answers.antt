@@ -1,0 +1,13 @@
+-- `binary32::patterns::read_finite` meets its contract.
+use Rattle.binary_patterns.proofs.Reading.{steps_ready, steps_number}
+use Rattle.binary32.specs.Patterns.{finite, number_read}
+use Rattle.binary32.proofs.Fields.{widths}
+use Rattle.binary32.proofs.patterns.read_finite.Goals as goal
+
+pub number_at-requires : goal.number_at-requires
+unfolding finite
+number_at-requires c = steps_ready widths c.args.pattern c.prepared_binary32.ensures c.field_of-field.ensures c.significand_of-significand.ensures c.place_of.ensures c.requires
+
+pub returns : goal.returns
+unfolding number_read
+returns c = steps_number widths c.args.pattern c.prepared_binary32.ensures c.field_of-field.ensures c.significand_of-significand.ensures c.place_of.ensures c.number_at.ensures
