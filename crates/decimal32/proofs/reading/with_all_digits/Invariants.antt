@@ -1,5 +1,5 @@
 -- `decimal32::reading::with_all_digits` meets its contract: each turn moves a factor 10 from the power to the significand.
-use Rattle.theory.proofs.Prelude.{◌≤◌, ◌<◌, ◌^◌, ◌*◌, ◌-◌, ◌≡◌}
+use Rattle.theory.proofs.Prelude.{◌≤◌, ◌<◌, ◌^◌, ◌*◌, ◌≡◌}
 use Rattle.decimal32.proofs.reading.with_all_digits.Given as goal
 
 abbrev pub invariant-loop-m : goal.invariant-loop-m

@@ -15,14 +15,14 @@ unfolding admitted ◌and◌
 last f b₁ b₂ d₁ d₂ p = rw (le-leb _ _ b₁, le-leb _ _ b₂, le-leb _ _ d₁, le-leb _ _ d₂, p, ◌and◌)
 
 pub returns-then-not-fits : goal.returns-then-not-fits
-returns-then-not-fits c = refuted (λ h. never (sym (le-leb _ _ (admits _ h).power_high) ∙ denied c.fits.ensures c.if-not-fits.true-raw))
+returns-then-not-fits c = refuted (λ h. never (sym (le-leb _ _ (admits _ h).power_high) ∙ sym c.fits.ensures ∙ c.if-not-fits.true))
 
 pub returns : goal.returns
 returns c =
     let emin-fits : SFits w32 c.args.format.emin = search rules in
     let emax-fits : SFits w32 c.args.format.emax = search rules in
     (c.exponents_admitted.ensures ∙ rw (back emin-fits, back emax-fits))
-    ∙ last c.args.format c.if-base-lt2.false c.if-base-gt256.false c.if-digits-lt1.false c.if-digits-gt63.false (granted c.fits.ensures c.if-not-fits.false-raw)
+    ∙ last c.args.format c.if-base-lt2.false c.if-base-gt256.false c.if-digits-lt1.false c.if-digits-gt63.false (sym c.fits.ensures ∙ c.if-not-fits.false)
 
 pub returns-then-base-lt2 : goal.returns-then-base-lt2
 returns-then-base-lt2 c = refuted (λ h. let a = admits _ h in omega arith)

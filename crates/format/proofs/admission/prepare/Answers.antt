@@ -15,23 +15,23 @@ worked-out f a least highest e h = rw (e, h, bound_least a)
 
 pub returns-then-not-is_admitted : goal.returns-then-not-is_admitted
 unfolding preparation
-returns-then-not-is_admitted c = sym (unless_failed _ _ (denied c.is_admitted.ensures c.if-not-is_admitted.true-raw))
+returns-then-not-is_admitted c = sym (unless_failed _ _ (sym c.is_admitted.ensures ∙ c.if-not-is_admitted.true))
 
 pub power-least-requires : goal.power-least-requires
 power-least-requires c =
-    let passed : Admitted c.args.format = admits _ (granted c.is_admitted.ensures c.if-not-is_admitted.false-raw) in
+    let passed : Admitted c.args.format = admits _ (sym c.is_admitted.ensures ∙ c.if-not-is_admitted.false) in
     let a = passed in (a.base_low, a.base_high, le_trans (least_bound a) a.power_high)
 
 pub overflow_mul-bound : goal.overflow_mul-bound
 overflow_mul-bound c =
-    let passed : Admitted c.args.format = admits _ (granted c.is_admitted.ensures c.if-not-is_admitted.false-raw) in
+    let passed : Admitted c.args.format = admits _ (sym c.is_admitted.ensures ∙ c.if-not-is_admitted.false) in
     let a = passed in rw (c.power-least.ensures, ← bound_least a) (omega arith)
 
 pub distance-requires : goal.distance-requires
 distance-requires c =
     let emin-fits : SFits w32 c.args.format.emin = search rules in
     let emax-fits : SFits w32 c.args.format.emax = search rules in
-    let passed : Admitted c.args.format = admits _ (granted c.is_admitted.ensures c.if-not-is_admitted.false-raw) in
+    let passed : Admitted c.args.format = admits _ (sym c.is_admitted.ensures ∙ c.if-not-is_admitted.false) in
     rw (back emin-fits, back emax-fits) (exponents_made passed.range)
 
 pub returns : goal.returns
@@ -39,13 +39,13 @@ unfolding preparation
 returns c =
     let emin-fits : SFits w32 c.args.format.emin = search rules in
     let emax-fits : SFits w32 c.args.format.emax = search rules in
-    let passed : Admitted c.args.format = admits _ (granted c.is_admitted.ensures c.if-not-is_admitted.false-raw) in
+    let passed : Admitted c.args.format = admits _ (sym c.is_admitted.ensures ∙ c.if-not-is_admitted.false) in
     ap Ready
     (worked-out c.args.format passed _ _ c.power-least.ensures
     (c.distance.ensures ∙ rw (back emin-fits, back emax-fits)))
-    ∙ sym (unless_passed _ _ (granted c.is_admitted.ensures c.if-not-is_admitted.false-raw))
+    ∙ sym (unless_passed _ _ (sym c.is_admitted.ensures ∙ c.if-not-is_admitted.false))
 
 pub overflow_sub-digits : goal.overflow_sub-digits
 overflow_sub-digits c =
-    let passed : Admitted c.args.format = admits _ (granted c.is_admitted.ensures c.if-not-is_admitted.false-raw) in
+    let passed : Admitted c.args.format = admits _ (sym c.is_admitted.ensures ∙ c.if-not-is_admitted.false) in
     passed.digits_low
