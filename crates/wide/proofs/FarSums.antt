@@ -1,5 +1,5 @@
 -- The cut of a sum of two numbers that are far apart: where the smaller one lies decides.
-use Rattle.theory.proofs.Prelude.{ℕ, ◌≤◌, ◌<◌, ◌+◌, ◌^◌, ◌*◌, ◌-◌, true, false, Bool, cond, not, Bool·beq, inr, ◌≢◌, ◌∙◌, ap, ◌≡◌, sym, refl, ap₂, mul-le-mul_right, mul-le-mul_left, mul-pos, mul-lt-mul_of_pos_right, le_antisymm, add-zero, arith, ℤ, ◌+ℤ◌, bool_byte}
+use Rattle.theory.proofs.Prelude.{ℕ, ◌≤◌, ◌<◌, ◌+◌, ◌^◌, ◌*◌, ◌-◌, true, false, Bool, cond, not, Bool·beq, inr, ◌≢◌, ◌∙◌, ap, ◌≡◌, sym, refl, ap₂, mul-le-mul_right, mul-le-mul_left, mul-pos, mul-lt-mul_of_pos_right, le_antisymm, add-zero, arith, ◌+ℤ◌, bool_byte}
 use native.Mathlib.Nat.{sub-zero}
 use Rattle.rounding.proofs.Prelude.{Canonical, signed, pow-add, pow_pos, pow_pred, pow_mono, pow_half, Scale, ScaledWithin, Location, Exact, Below, Above, located, located_exact, located_below, located_above, located_scaled, positional, power_at, least_bound}
 use Rattle.rounding.specs.declared.Wide.{Wide}

@@ -44,4 +44,4 @@ overflow_add-high-2 c =
     omega (arith, room)
 
 pub returns : goal.returns
-returns c = words_are 32 c.args.a c.args.b _ _ c.wrapping_add_u64-cross.ensures c.wrapping_add_u64-low.ensures
+returns c = words_are 32 c.args.a c.args.b _ _ c.wrapping_add_u64-cross.ensures.value c.wrapping_add_u64-low.ensures.value

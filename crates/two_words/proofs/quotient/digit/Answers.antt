@@ -35,8 +35,7 @@ overflow_sub-quotient-2 c =
 pub returns-then-lack-gt0 : goal.returns-then-lack-gt0
 returns-then-lack-gt0 c =
     let given : Premises 32 c.args.h c.args.l c.args.d = record { some = omega arith; top = c.requires.0; word = c.ranges.d.fits; below = c.requires.1; half = c.requires.2 } in
-    let p = given in
-    elim c.if-d-lack.branch [ then-d-lack w ↦ rw w.VAR-is (two_less 32 _ _ _ p _ c.excess-lack.ensures w.if-d-lack.true) | else-d-lack w ↦ rw w.VAR-is (one_less 32 _ _ _ p _ c.excess-lack.ensures c.if-lack-gt0.true w.if-d-lack.false) ]
+    elim c.if-d-lack.branch [ then-d-lack w ↦ rw w.short-is (two_less 32 _ _ _ given _ c.excess-lack.ensures w.if-d-lack.true) | else-d-lack w ↦ rw w.short-is (one_less 32 _ _ _ given _ c.excess-lack.ensures c.if-lack-gt0.true w.if-d-lack.false) ]
 
 pub returns-else-lack-gt0 : goal.returns-else-lack-gt0
 returns-else-lack-gt0 c =
