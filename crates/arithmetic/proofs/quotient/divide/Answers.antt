@@ -1,0 +1,34 @@
+-- `arithmetic::quotient::divide` meets its contract: the quotient in the wide format, delivered without its digits.
+use Rattle.theory.proofs.Prelude.{xor, ◌≤◌, ◌∙◌, ap, sym, arith}
+use Rattle.arithmetic.specs.Marked.{marked, marked_quotient}
+use Rattle.arithmetic.proofs.Prepared.{Delivers, divisor_none, quotient_delivers}
+use Rattle.arithmetic.proofs.Pairs.{quotient_operands}
+use Rattle.arithmetic.proofs.quotient.divide.Goals as goal
+
+pub returns-then-divisor-eq0 : goal.returns-then-divisor-eq0
+unfolding marked
+returns-then-divisor-eq0 c = let s = c.args in ap (marked s.prepared.format _ _) (sym (divisor_none s.prepared.format s.direction s.a s.b c.if-divisor-eq0.true))
+
+pub quotient_powers-w-requires : goal.quotient_powers-w-requires
+quotient_powers-w-requires c = c.requires
+
+pub quotient-counted-requires : goal.quotient-counted-requires
+quotient-counted-requires c =
+    let some : 1 ≤ c.args.b.significand = omega (arith, c.if-divisor-eq0.false) in
+    quotient_operands c.requires some c.quotient_powers-w.ensures
+
+pub deliver_wide-requires : goal.deliver_wide-requires
+unfolding xor
+deliver_wide-requires c =
+    let some : 1 ≤ c.args.b.significand = omega (arith, c.if-divisor-eq0.false) in
+    let result : let s = c.args in
+    Delivers s.prepared.format c.quotient-counted.result.rounding (marked_quotient s.prepared.format s.direction s.a s.b) = quotient_delivers c.requires.usable c.args.direction c.args.a c.args.b some c.quotient_powers-w.ensures c.quotient-counted.ensures.0 in
+    (c.requires.usable, result.canonical)
+
+pub returns : goal.returns
+unfolding xor
+returns c =
+    let some : 1 ≤ c.args.b.significand = omega (arith, c.if-divisor-eq0.false) in
+    let result : let s = c.args in
+    Delivers s.prepared.format c.quotient-counted.result.rounding (marked_quotient s.prepared.format s.direction s.a s.b) = quotient_delivers c.requires.usable c.args.direction c.args.a c.args.b some c.quotient_powers-w.ensures c.quotient-counted.ensures.0 in
+    c.deliver_wide.ensures ∙ result.is
