@@ -1,5 +1,5 @@
 -- Sum and product commute, the difference is the sum with the second number negated, and x + 0, x × 1 and x ÷ 1 are x.
-use Rattle.theory.proofs.Prelude.{ℕ, ◌≤◌, ◌+◌, ◌*◌, ◌^◌, ◌-◌, suc, zero, true, false, Bool, not, xor, [], ◌∷◌, List, ◌∙◌, ap, ◌≡◌, sym, refl, ap₂, pow-zero, mul_comm, arith, ℤ, pos, ◌+ℤ◌, nat_abs, ◌-ℤ◌, ◌*ℤ◌, neg_ℤ, +ℤ_comm}
+use Rattle.theory.proofs.Prelude.{ℕ, ◌≤◌, ◌+◌, ◌*◌, ◌^◌, suc, zero, true, false, Bool, not, xor, [], ◌∷◌, List, ◌∙◌, ap, ◌≡◌, sym, refl, ap₂, pow-zero, mul_comm, arith, ℤ, pos, ◌+ℤ◌, nat_abs, ◌-ℤ◌, ◌*ℤ◌, neg_ℤ, +ℤ_comm}
 use Rattle.arithmetic.proofs.Prelude.{Direction, all, ◌and◌, signed, pow_pos, Format, highest_place, Given, gives, direction, gives_same, gives_not_refused, Number, above_zero, below_zero, member, magnitude, value, number, members, member_made, checks_end, rounded, rounded_sum, rounded_z, rounded_product, Rounded, and_left, scale_signed, Admitted, admits, distances, checked, Checks, not_admitted, no_direction, not_member, all_passed, signed_member, negated_value}
 use Rattle.theory.proofs.Integers.{size_parts, size_signed, plus_sign, times_one}
 use Rattle.number.specs.Signs.{negated}

@@ -10,7 +10,7 @@ use Rattle.number.proofs.Values.{canonical_beyond}
 use Rattle.arithmetic.specs.Operands.{record_powers}
 use Rattle.arithmetic.specs.Operations.{rounded_record}
 use Rattle.arithmetic.specs.Marked.{marked, marked_record}
-use Rattle.arithmetic.proofs.Prelude.{Direction, pow-add, pow_pos, pow_mono, Format, highest_place, refused, apart, Admitted, positional, highest_most, Number, above_zero, below_zero, greatest, delivered, rounded, above, diff_parts, size_parts, unless_failed}
+use Rattle.arithmetic.proofs.Prelude.{Direction, pow-add, pow_pos, pow_mono, Format, highest_place, refused, apart, Admitted, positional, highest_most, Number, above_zero, below_zero, greatest, delivered, rounded, diff_parts, size_parts, unless_failed}
 use Rattle.arithmetic.proofs.Prepared.{parts_above, parts_below}
 use Rattle.arithmetic.proofs.Pairs.{powers}
 

@@ -2,7 +2,7 @@
 -- refusal 5 is given exactly where the rounded magnitude is above the greatest number. An exact result that is a number of the
 -- format is given as it is, in every direction.
 use Rattle.theory.proofs.Prelude.{ℕ, ◌≤◌, ◌<◌, ◌*◌, true, false, Bool, ⊎_elim, ◌∙◌, ap, ◌≡◌, sym, refl, subst, pow-zero, lt_of_mul-lt-mul_right, arith, leb, ℤ, nat_abs, le-leb, leb-true, leb-false}
-use Rattle.arithmetic.proofs.Prelude.{unless, Direction, signed, is_negative, round_z, Format, Given, gives, refused, Admitted, positional, gives_same, gives_not_refused, Number, member, magnitude, value, greatest, number, delivered, Member, member_made, rounded, rounded_z, unless_passed, wide_pow, size_signed}
+use Rattle.arithmetic.proofs.Prelude.{unless, Direction, signed, is_negative, round_z, Format, Given, gives, refused, Admitted, positional, gives_same, gives_not_refused, Number, magnitude, value, greatest, number, delivered, Member, member_made, rounded, rounded_z, unless_passed, wide_pow, size_signed}
 use Rattle.theory.specs.Signed.{sign_or}
 use Rattle.theory.proofs.Integers.{either_sign, sign_or_law}
 use Rattle.theory.specs.Round.{round}

@@ -1,6 +1,6 @@
 -- From a prepared format to the wide format and back: a number of the format is an operand there, and a result that comes back
 -- is the exact value, rounded and delivered.
-use Rattle.theory.proofs.Prelude.{w32, SFits, to_z, of_z, ℕ, ◌≤◌, ◌<◌, ◌+◌, ◌^◌, ◌*◌, suc, zero, true, false, Bool, cond, not, xor, ◌∙◌, ap, ◌≡◌, sym, refl, ap₂, pow-zero, zero-mul, mul-pos, arith, eqb, ℤ, pos, ◌+ℤ◌, nat_abs, negsuc, neg_ℤ, ◌*ℤ◌, leb, ne_eqb, eq-eqb}
+use Rattle.theory.proofs.Prelude.{w32, SFits, to_z, of_z, ℕ, ◌≤◌, ◌<◌, ◌^◌, ◌*◌, suc, zero, true, false, Bool, cond, not, xor, ◌∙◌, ap, ◌≡◌, sym, refl, ap₂, pow-zero, zero-mul, mul-pos, arith, eqb, ℤ, pos, ◌+ℤ◌, nat_abs, negsuc, neg_ℤ, ◌*ℤ◌, leb, ne_eqb, eq-eqb}
 use Rattle.arithmetic.proofs.Prelude.{back, Direction, mark, unless, signed, is_negative, round_z, pow_pos, Format, Prepared, Given, gives, refused, refused_at, Number, Usable, above_zero, below_zero, member, place_of, magnitude, value, greatest, number, delivered, members, member_made, known, Wide, Rounding, rounded, rounded_z, rounded_product, rounded_quotient, rounded_fraction, Rounded, above, below, own_sign, scale_signed, member_canonical, member_highest, highest_most, delivered_same, number_of, number_value, signed_member, negated_value}
 use Rattle.theory.specs.declared.Mark.{Mark}
 use Rattle.theory.specs.Signed.{sign_or}
