@@ -8,7 +8,7 @@ use Rattle.theory.proofs.FastTwoSum.{WideTriple, triple_close}
 use Rattle.number.proofs.Prelude.{Format, apart}
 use Rattle.number.specs.declared.Number.{Number}
 use Rattle.number.specs.Numbers.{place_of, normal, small, is_zero, member, magnitude, value}
-use Rattle.fast_two_sum.specs.Triples.{Summands, Triple, Bound, distance}
+use Rattle.fast_two_sum.specs.Triples.{Summands, Triple, Bound}
 
 -- ---- a number of a format, admitted or not, is in its wide format
 significand_below : (f : Format) → 2 ≤ f.base → (x : Number) → member f x ≡ true → x.significand < f.base ^ f.digits

@@ -1,6 +1,6 @@
 -- The check's test is the paper's faithfulness: what is computed from two roundings, and what a passed check says.
-use Rattle.theory.proofs.Prelude.{true, false, Bool, ⊎_elim, inl, inr, ◌⊎◌, ◌∙◌, ap, ◌≡◌, sym, arith, ℤ, nat_abs}
-use Rattle.theory.proofs.Words.{◌and◌, ◌or◌, round_z, Faithful}
+use Rattle.theory.proofs.Prelude.{true, false, Bool, ⊎_elim, inl, inr, ◌∙◌, ap, ◌≡◌, sym, arith, ℤ, nat_abs}
+use Rattle.theory.proofs.Words.{◌or◌, round_z, Faithful}
 use Rattle.theory.specs.declared.Direction.{Direction}
 use Rattle.theory.specs.declared.Direction.TheVariants.{Upward, Downward}
 use Rattle.theory.proofs.Tests.{and_left, and_right, and_made, or_cases, or_left, or_right, refuted}
