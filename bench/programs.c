@@ -21,7 +21,7 @@ typedef struct job {
 } job;
 
 static const job jobs[] = {
-    {"places", "target/bin/places", lines_path},
+    {"places", "crates/places/out/places", lines_path},
     {"cat of its input", "cat", lines_path},
     {"cat of its output", "cat", printed_path},
 };

@@ -2,6 +2,6 @@
 // predecessor and successor.
 #![tactic(auto)]
 
-fn main() {
-    lines::stream::answer_input();
+fn main(rt: HostRuntime) {
+    lines::stream::answer_input(&rt);
 }

@@ -6,52 +6,69 @@ mod calls;
 mod columns;
 mod rows;
 
-use libc::{STDERR_FILENO, STDIN_FILENO, STDOUT_FILENO};
+ghost use Rattle.std.specs.Prelude.{◌≤◌, length};
+
 use rows::Tally;
+use std::io::Read;
 
 // 1,024 rows.
 const BLOCK: usize = 1024 * columns::ROW_LENGTH;
 
 // Reads blocks until nothing comes any more, and says on standard error where it cannot read or write. A proved loop has to end, so this
-// one counts its turns down from a number that no run uses up.
-fn main() {
+// one counts its turns up to a number that no run uses up.
+fn main(rt: HostRuntime) {
     let mut block = [0u8; BLOCK];
     let mut tally = Tally { agree: 0, all: 0 };
-    let mut turns = u64::MAX;
-    while turns > 0 {
-        let n = io::read_full(STDIN_FILENO, &mut block);
+    let mut stdin = rt.reader();
+    for _ in 0..u64::MAX {
+        let n = read_full(&mut stdin, &mut block);
         if n == 0 {
             break;
         }
         tally = rows::count(tally, &block[..n]);
-        turns -= 1;
     }
-    if !is_at_end() {
-        report_unread();
+    if !is_at_end(&mut stdin) {
+        report_unread(&rt);
         return;
     }
-    if !print(tally) {
-        report_unwritten();
+    if !print(&rt, tally) {
+        report_unwritten(&rt);
     }
+}
+
+// Reads until the block is full, the input ends or cannot be read, and answers how many bytes it put at the start of the block.
+fn read_full(stdin: &mut impl Read, block: &mut [u8]) -> usize
+    ensures { result ≤ length block.new }
+{
+    let mut done = 0;
+    while done < block.len() {
+        let Ok(n) = stdin.read(&mut block[done..]) else {
+            break;
+        };
+        if n == 0 {
+            break;
+        }
+        done += n;
+    }
+    done
 }
 
 // Where nothing came, the input has ended or cannot be read: only at its end does one more read answer 0.
-fn is_at_end() -> bool {
+fn is_at_end(stdin: &mut impl Read) -> bool {
     let mut more = [0u8; 1];
-    libc::read(STDIN_FILENO, &mut more) == 0
+    matches!(stdin.read(&mut more), Ok(0))
 }
 
-fn print(tally: Tally) -> bool {
-    io::print_decimal(STDOUT_FILENO, tally.agree)
-        && io::write_all(STDOUT_FILENO, b" of ")
-        && io::print_decimal(STDOUT_FILENO, tally.all)
-        && io::write_all(STDOUT_FILENO, b" rows agree\n")
+fn print(rt: &impl Print, tally: Tally) -> bool {
+    let agree = tally.agree;
+    let all = tally.all;
+    println!(rt; "{agree} of {all} rows agree").is_ok()
 }
 
-fn report_unread() {
-    io::write_all(STDERR_FILENO, b"vectors: cannot read standard input\n");
+fn report_unread(rt: &impl Eprint) {
+    let _ = eprintln!(rt; "vectors: cannot read standard input");
 }
 
-fn report_unwritten() {
-    io::write_all(STDERR_FILENO, b"vectors: cannot write standard output\n");
+fn report_unwritten(rt: &impl Eprint) {
+    let _ = eprintln!(rt; "vectors: cannot write standard output");
 }
