@@ -15,7 +15,7 @@ pub record Going (first : Line) (input before : List ℕ) (i : ℕ) (line : Line
   pub begins : begun line (drop i input) ≡ begun first input
 
 abbrev pub invariant-loop-i : goal.invariant-loop-i
-invariant-loop-i l = Going l.initial.line l.input l.initial.out-1 l.i l.line l.at l.out-1
+invariant-loop-i l = Going l.initial.line l.input l.initial.out l.i l.line l.at l.out
 
 abbrev pub decreases-loop-i : goal.decreases-loop-i
 decreases-loop-i l = length l.input - l.i

@@ -14,8 +14,8 @@ shown : (n end : ℕ)
     ≡ low_digits 8 n ++ end ∷ []
 shown n end = simp (letter_is, div-one)
 
-pub put_text-requires-in-Refused : goal.put_text-requires-in-Refused
-put_text-requires-in-Refused c = put_as (shown c.in-Written.n c.args.end ∙ ap (λ (q : PatternAnswer). field_text (pattern_given q) ++ c.args.end ∷ []) (sym c.in-Written.is)) c.put_text.ensures
+pub returns-in-Written : goal.returns-in-Written
+returns-in-Written c = put_as (shown c.in-Written.n c.args.end ∙ ap (λ (q : PatternAnswer). field_text (pattern_given q) ++ c.args.end ∷ []) (sym c.in-Written.is)) c.put_text.ensures
 
 pub returns-in-Refused : goal.returns-in-Refused
 returns-in-Refused c = put_as (ap (λ (q : PatternAnswer). field_text (pattern_given q) ++ c.args.end ∷ []) (sym c.in-Refused.is)) (put_upto (omega arith) c.put_text-in-Refused.ensures)

@@ -1,5 +1,5 @@
 -- `lines::printing::put_text` meets its contract: what is left of the text, stored in what the slice has become, gives what the whole text gives.
-use Rattle.theory.proofs.Prelude.{ℕ, ◌<◌, ◌+◌, ◌-◌, suc, [], List, ◌∙◌, ap, ◌≡◌, sym, refl, ap₂, add-zero, add-one, arith, length, get_or, drop, set, drop-cons, drop-length, rules}
+use Rattle.theory.proofs.Prelude.{ℕ, ◌<◌, ◌+◌, suc, [], List, ◌∙◌, ap, ◌≡◌, sym, refl, ap₂, add-zero, add-one, arith, length, get_or, drop, set, drop-cons, drop-length, rules}
 use lib.ListN.{length-set}
 use lib.Seq.{sets}
 use Rattle.lines.proofs.printing.put_text.Goals as goal
@@ -13,8 +13,8 @@ step l at text i h =
 end : (l : List ℕ) (at : ℕ) (text : List ℕ) (i : ℕ) → i ≡ length text → sets l (at + i) (drop i text) ≡ l
 end l at text i e = let none : drop i text ≡ [] = rw e (drop-length text) in rw none
 
-pub loop-i-smaller : goal.loop-i-smaller
-loop-i-smaller c =
+pub loop-i-preserved : goal.loop-i-preserved
+loop-i-preserved c =
     let s = c.args in (
       search rules,
       simp length-set c.loop-i.invariant.1,
@@ -33,6 +33,3 @@ returns c =
 
 pub loop-i-init : goal.loop-i-init
 loop-i-init c = (search rules, refl, rw add-zero)
-
-pub overflow_add-result : goal.overflow_add-result
-overflow_add-result c = c.loop-i.invariant.1

@@ -4,7 +4,7 @@ use lib.Seq.{sets}
 use Rattle.lines.proofs.printing.put_text.Given as goal
 
 abbrev pub invariant-loop-i : goal.invariant-loop-i
-invariant-loop-i l = (l.i ≤ length l.initial.out) × (length l.out ≡ length l.at) × (sets l.out (l.text + l.i) (drop l.i l.initial.out) ≡ sets l.at l.text l.initial.out)
+invariant-loop-i l = (l.i ≤ length l.text) × (length l.out ≡ length l.initial.out) × (sets l.out (l.at + l.i) (drop l.i l.text) ≡ sets l.initial.out l.at l.text)
 
 abbrev pub decreases-loop-i : goal.decreases-loop-i
-decreases-loop-i l = length l.initial.out - l.i
+decreases-loop-i l = length l.text - l.i
