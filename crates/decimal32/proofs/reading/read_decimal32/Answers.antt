@@ -10,7 +10,7 @@ unfolding decimal32_read
 returns-then-not-is_finite c = sym (unless_failed _ _ (sym c.is_finite.ensures ∙ c.if-not-is_finite.true))
 
 pub read_finite-requires : goal.read_finite-requires
-read_finite-requires c = granted c.is_finite.ensures c.if-not-is_finite.false-raw
+read_finite-requires c = sym c.is_finite.ensures ∙ c.if-not-is_finite.false
 
 pub returns : goal.returns
 unfolding decimal32_read

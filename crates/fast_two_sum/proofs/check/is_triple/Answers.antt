@@ -21,7 +21,7 @@ unfolding is_triple ◌and◌
 returns c =
     c.is_faithful_difference-2.ensures
     ∙ rw
-    (granted c.is_faithful_sum.ensures c.if-not-is_faithful_sum.false-raw, granted c.is_faithful_difference.ensures c.if-not-is_faithful_difference.false-raw, ◌and◌)
+    (sym c.is_faithful_sum.ensures ∙ c.if-not-is_faithful_sum.false, sym c.is_faithful_difference.ensures ∙ c.if-not-is_faithful_difference.false, ◌and◌)
 
 pub is_faithful_difference-requires : goal.is_faithful_difference-requires
 is_faithful_difference-requires c = let p = c.requires in search rules

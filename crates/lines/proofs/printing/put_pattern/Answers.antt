@@ -16,13 +16,13 @@ pub returns-then-not-is_finite : goal.returns-then-not-is_finite
 unfolding pattern_text
 returns-then-not-is_finite c =
     let n = c.args.pattern in
-    let failed = denied c.is_finite.ensures c.if-not-is_finite.true-raw in
+    let failed = sym c.is_finite.ensures ∙ c.if-not-is_finite.true in
     put_upto (omega arith) (put_as (ap (λ (g : Given Number). answered_text n g ++ line_feed) (sym (read_refused n (endless_field n failed)))) (put_after c.put_field-next.ensures c.put_text.ensures))
 
 pub returns : goal.returns
 unfolding pattern_text
 returns c =
-    let passed : finite c.args.pattern ≡ true = granted c.is_finite.ensures c.if-not-is_finite.false-raw in
+    let passed : finite c.args.pattern ≡ true = sym c.is_finite.ensures ∙ c.if-not-is_finite.false in
     let n = c.args.pattern in
     put_as
     (ap (λ (c : PlacesGiven). spaced (low_digits 8 n ∷ fields c) ++ line_feed) c.places_of.ensures ∙ ap (λ (g : Given Number). answered_text n g ++ line_feed) (sym (read_made n passed)))
@@ -30,5 +30,5 @@ returns c =
 
 pub places_of-requires : goal.places_of-requires
 places_of-requires c =
-    let passed : finite c.args.pattern ≡ true = granted c.is_finite.ensures c.if-not-is_finite.false-raw in
+    let passed : finite c.args.pattern ≡ true = sym c.is_finite.ensures ∙ c.if-not-is_finite.false in
     passed
