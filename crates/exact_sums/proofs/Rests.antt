@@ -1,5 +1,5 @@
 -- What a sum rounded to nearest leaves is in the format, and two sums are in the order of their rounded sums, then of what these leave.
-use Rattle.theory.proofs.Prelude.{ℕ, ◌≤◌, ◌+◌, ◌^◌, ◌%◌, true, false, Bool, not, inl, ◌∙◌, ap, ◌≡◌, refl, subst, arith, ℤ, pos, ◌+ℤ◌, nat_abs, ◌-ℤ◌, neg_ℤ, ◌*ℤ◌, +ℤ_comm, lt_z, le_z}
+use Rattle.theory.proofs.Prelude.{ℕ, ◌≤◌, ◌^◌, ◌%◌, true, false, Bool, not, inl, ◌∙◌, ap, ◌≡◌, refl, subst, arith, ℤ, pos, ◌+ℤ◌, nat_abs, ◌-ℤ◌, neg_ℤ, ◌*ℤ◌, +ℤ_comm, lt_z, le_z}
 use Rattle.theory.specs.declared.Direction.TheVariants.{NearestEven}
 use Rattle.theory.specs.declared.Mark.TheVariants.{Exact}
 use Rattle.theory.specs.Signed.{round_z}

@@ -1,6 +1,6 @@
 -- The answers in the request's words: the ends of a call, each with its condition; the entries of a stretch; and no influence of the
 -- patterns outside it.
-use Rattle.theory.proofs.Prelude.{ℕ, ◌≤◌, ◌<◌, ◌+◌, ◌-◌, true, false, Bool, cond, [], List, inl, inr, ◌⊎◌, ◌∙◌, ap, ◌≡◌, sym, refl, subst, dec_le, arith, eqb, ℤ, pos, ◌-ℤ◌, length, get_or, drop, length-drop, le_z, ◌≤ℤ◌, eq-eqb, le-leb, leb-false, eqb-true}
+use Rattle.theory.proofs.Prelude.{ℕ, ◌≤◌, ◌<◌, ◌+◌, ◌-◌, true, false, Bool, cond, List, inl, inr, ◌⊎◌, ◌∙◌, ap, ◌≡◌, sym, refl, subst, dec_le, arith, eqb, ℤ, pos, length, get_or, drop, length-drop, le_z, ◌≤ℤ◌, eq-eqb, le-leb, leb-false, eqb-true}
 use Prim.Native.Nat.{min}
 use lib.ListN.{length-take}
 use lib.Seq.{get_or-take, get_or-drop, ext_get_or}

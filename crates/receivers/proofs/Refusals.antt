@@ -1,7 +1,7 @@
 -- What the code finds of a stretch, in the terms of the definitions: the refusals in their order, what passed, and the log that is named.
 use Rattle.theory.proofs.Prelude.{ℕ, ◌≤◌, ◌<◌, ◌+◌, ◌-◌, true, false, Bool, cond, not, List, ◌∙◌, ap, ◌≡◌, sym, refl, ap₂, arith, eqb, leb, length, drop, take, length-drop, ne_eqb, eq-eqb, le-leb, leb-true, lt-leb, eqb-true}
 use lib.Seq.{length-take-le}
-use Rattle.theory.specs.Tests.{◌and◌, unless}
+use Rattle.theory.specs.Tests.{unless}
 use Rattle.theory.specs.Lists.{first_where, none}
 use Rattle.theory.proofs.Tests.{and_left, and_right, and_made, refuted, unless_passed, unless_failed, denied, granted}
 use Rattle.format.specs.Given.{Given, gives, refused, refused_at, ◌then◌}

@@ -1,14 +1,14 @@
 -- What nearest_line answers, in the words of requests 2 and 7.
-use Rattle.theory.proofs.Prelude.{ℕ, ◌≤◌, ◌<◌, ◌^◌, true, List, ◌≢◌, ◌≡◌, arith, ℤ, length, ◌<ℤ◌}
-use Rattle.format.specs.Given.{Given, gives}
+use Rattle.theory.proofs.Prelude.{ℕ, ◌≤◌, ◌<◌, ◌^◌, List, ◌≡◌, arith, ℤ, length}
+use Rattle.format.specs.Given.{gives}
 use Rattle.binary32.specs.Patterns.{finite, pattern_value, pattern_values}
 use Rattle.binary32.proofs.PatternValues.{value_at, values_length}
-use Rattle.saved_lines.specs.Offsets.{distance, nearest}
+use Rattle.saved_lines.specs.Offsets.{nearest}
 use Rattle.saved_lines.specs.Lines.{Checked, nearest_line}
-use Rattle.saved_lines.specs.Outcomes.{away, Nearest, NearestEnds, list_refused, found}
+use Rattle.saved_lines.specs.Outcomes.{Nearest, NearestEnds, list_refused, found}
 use Rattle.saved_lines.proofs.NearestLaws.{nearest_position, nearest_least, smaller_wins, one_tie}
 use Rattle.saved_lines.proofs.Offsets.{offsets_rise}
-use Rattle.saved_lines.proofs.Refusals.{offset, checks_end}
+use Rattle.saved_lines.proofs.Refusals.{checks_end}
 
 pub nearest_is_nearest : (l : List ℕ) (q : ℕ) → Checked l → Nearest l q (nearest (pattern_values l) (pattern_value q))
 nearest_is_nearest l q c =

@@ -1,7 +1,6 @@
 -- The nearest line in the words of requests 2 and 7: it is a position of the list, no line is nearer, at equal distance the smaller
 -- offset wins, and at most one other line is as near.
 use Rattle.theory.proofs.Prelude.{ℕ, ◌≤◌, ◌<◌, ◌+◌, ◌-◌, suc, zero, true, false, Bool, not, [], ◌∷◌, List, ⊎_elim, ◌≢◌, ◌∙◌, ap, ◌≡◌, sym, refl, dec_le, eq-or-lt_of_le, arith, ℤ, pos, length, ◌<ℤ◌}
-use Rattle.theory.specs.Tests.{◌and◌}
 use Rattle.theory.proofs.Integers.{above, below, parts_lt, lt_parts, parts_eq}
 use Rattle.theory.proofs.Lists.{first_is, first_before, first_passes, first_position, none_at, none_made, neighbours_made, neighbours_fail}
 use Rattle.theory.proofs.Tests.{never, and_made}

@@ -1,5 +1,5 @@
 -- What lines_within answers and writes, in the words of request 5.
-use Rattle.theory.proofs.Prelude.{ℕ, ◌≤◌, ◌<◌, ◌+◌, true, false, Bool, [], List, ◌∙◌, ap, ◌≡◌, sym, refl, subst, arith, leb, ℤ, pos, length, le_z, ◌<ℤ◌, ◌≤ℤ◌, le-leb, leb-true, leb-false}
+use Rattle.theory.proofs.Prelude.{ℕ, ◌<◌, ◌+◌, true, false, Bool, [], List, ◌∙◌, ap, ◌≡◌, sym, refl, subst, arith, leb, ℤ, pos, length, le_z, ◌<ℤ◌, le-leb, leb-true, leb-false}
 use Rattle.theory.specs.Tests.{◌and◌, unless}
 use Rattle.theory.proofs.Integers.{above, below, parts_le, parts_eq, le_parts, lt_parts}
 use Rattle.theory.proofs.Tests.{unless_passed}

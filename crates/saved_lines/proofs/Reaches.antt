@@ -1,5 +1,5 @@
 -- The lines within reach stand side by side, from the first that reaches the query up to the first beyond it.
-use Rattle.theory.proofs.Prelude.{ℕ, ◌≤◌, ◌<◌, ◌+◌, ◌-◌, true, false, Bool, not, List, ◌∙◌, ap, ◌≡◌, sym, refl, dec_le, arith, leb, ℤ, pos, ◌+ℤ◌, length, get_or, le_z, le-leb, lt-leb, not-true, not-false}
+use Rattle.theory.proofs.Prelude.{ℕ, ◌≤◌, ◌<◌, ◌-◌, true, false, Bool, not, List, ◌∙◌, ap, ◌≡◌, sym, refl, dec_le, arith, leb, ℤ, pos, ◌+ℤ◌, length, get_or, le_z, le-leb, lt-leb, not-true, not-false}
 use Rattle.theory.specs.Lists.{first_where}
 use Rattle.theory.specs.Tests.{◌and◌, unless}
 use Rattle.theory.proofs.Lists.{first_before, first_most}

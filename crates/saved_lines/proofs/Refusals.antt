@@ -1,5 +1,5 @@
 -- What the checks turn away, in their order: each refusal with what holds where it comes and no earlier one does.
-use Rattle.theory.proofs.Prelude.{ℕ, ◌≤◌, ◌<◌, suc, true, false, Bool, not, List, inl, inr, ◌⊎◌, ◌∙◌, ◌≡◌, sym, refl, dec_le, arith, leb, ℤ, pos, length, get_or, lt_z, ◌<ℤ◌, ◌≤ℤ◌, le-leb, leb-true, leb-false, not-true}
+use Rattle.theory.proofs.Prelude.{ℕ, ◌≤◌, ◌<◌, suc, true, false, Bool, not, List, inl, inr, ◌⊎◌, ◌∙◌, ◌≡◌, sym, refl, dec_le, arith, leb, ℤ, pos, length, get_or, lt_z, le-leb, leb-true, leb-false, not-true}
 use Rattle.theory.specs.Lists.{first_where, none}
 use Rattle.theory.specs.Tests.{◌and◌, unless}
 use Rattle.theory.proofs.Integers.{parts_le, parts_lt, parts_eq}
@@ -7,7 +7,7 @@ use Rattle.theory.proofs.Lists.{first_before, first_passes, Neighbours, some_nei
 use Rattle.theory.proofs.Tests.{never, and_left, and_right, and_made}
 use Rattle.format.specs.Given.{Given, refused, refused_at, ◌then◌}
 use Rattle.format.proofs.Signed.{lt_true, lt_false}
-use Rattle.binary32.specs.Patterns.{finite, not_finite, pattern_value, pattern_values}
+use Rattle.binary32.specs.Patterns.{finite, not_finite, pattern_values}
 use Rattle.binary32.proofs.PatternValues.{finite_made, finite_fails, all_finite, value_at, values_length}
 use Rattle.saved_lines.specs.Offsets.{at, falls, descends, equals, repeats}
 use Rattle.saved_lines.specs.Lines.{passed, patterns_checked, ascent_checked, lines_checked, Checked}

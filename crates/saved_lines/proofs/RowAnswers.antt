@@ -4,7 +4,7 @@ use Rattle.theory.specs.Lists.{first_where, none}
 use Rattle.theory.specs.Tests.{◌and◌, unless}
 use Rattle.theory.proofs.Tests.{never, and_left, and_right, and_made}
 use Rattle.format.specs.Given.{Given, gives, refused, refused_at, ◌then◌}
-use Rattle.binary32.specs.Patterns.{finite, not_finite, pattern_values}
+use Rattle.binary32.specs.Patterns.{not_finite, pattern_values}
 use Rattle.binary32.proofs.PatternValues.{all_finite}
 use Rattle.saved_lines.specs.Offsets.{descends}
 use Rattle.saved_lines.specs.Lines.{passed, patterns_checked, lines_checked, Checked, nearest_line}

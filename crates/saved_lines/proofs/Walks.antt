@@ -2,7 +2,6 @@
 use Rattle.theory.proofs.Prelude.{ℕ, ◌≤◌, ◌<◌, ◌+◌, ◌-◌, suc, zero, true, false, Bool, [], ◌∷◌, List, ◌++◌, append-nil, map, ◌∙◌, ap, ◌≡◌, sym, refl, ap₂, dec_le, add-one, arith, ℤ, length, get_or, drop, take, set, length-map}
 use lib.ListN.{length-append, length-set, take-append-drop}
 use lib.Seq.{get_or_at, get_or-append-add, take-suc-set, drop-set-lt, drop-drop}
-use Rattle.theory.proofs.Integers.{above, below}
 use Rattle.binary32.specs.Patterns.{pattern_value, pattern_values}
 use Rattle.binary32.proofs.PatternValues.{value_at, values_length}
 use Rattle.format.proofs.Signed.{Upto, Under}
