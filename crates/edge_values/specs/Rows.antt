@@ -1,7 +1,7 @@
 -- "Values at the edges" of document 01, the starred lines: each call by its definition, and the answer that the paper gives.
 use Rattle.std.specs.Prelude.{ℕ, true, false, List, [], ◌∷◌, ℤ, pos, negsuc}
 use Rattle.theory.specs.declared.Mark.{Mark}
-use Rattle.theory.specs.declared.Mark.TheVariants.{Exact, Low, High}
+use Rattle.theory.specs.declared.Mark.TheVariants.{Low, High}
 use Rattle.format.specs.declared.Format.{Format}
 use Rattle.format.specs.Given.{Given, gives, refused}
 use Rattle.number.specs.declared.Number.{Number}

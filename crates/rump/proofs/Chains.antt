@@ -61,6 +61,9 @@ exchange f (gives x) (gives y) h k onward = refl
 exchange f (gives x) (refused n) h k onward = refl
 exchange f (refused m) (gives y) h k onward = refl
 exchange f (refused m) (refused n) h k onward = ap refused (h ∙ sym k)
+exchange f (gives x) (refused_at n i) h k onward = elim k [ ]
+exchange f (refused m) (refused_at n i) h k onward = elim k [ ]
+exchange f (refused_at n i) w h k onward = elim h [ ]
 
 -- the lines of the code
 abbrev sum : Format → (v w : Given Number) → Given Number
@@ -88,6 +91,7 @@ module _ (f : Format) (x : Number) where
   unfolding joined
   shrunk p (gives v) h k = regroup p _ _
   shrunk p (refused n) h k = exchange f (refused n) p k h (λ u v. gives v)
+  shrunk p (refused_at n i) h k = elim k [ ]
 
   pub figure1_joined : {p1 q : Given Number} → p1 ≡ minus f (gives (power f 0)) (gives (subrealmin f))
       → q ≡ times f (sum f (gives (power f (f.digits - 1))) (gives (power f 0))) (gives x)
@@ -122,6 +126,7 @@ module _ (f : Format) (x : Number) where
   unfolding joined
   corrected s (gives v) d h k = regroup d _ _
   corrected s (refused n) d h k = exchange f (refused n) d h k (λ u v. gives v)
+  corrected s (refused_at n i) d h k = elim h [ ]
 
   pub figure5_joined : {s b d : Given Number} → s ≡ gap f x → b ≡ minus f (gives (power f 1)) (gives (power f 0))
       → d ≡ minus f (minus f (sum f (gives x) s) (gives x)) s → Settled f b → Settled f d → minus f s (times f b d) ≡ figure5 f x

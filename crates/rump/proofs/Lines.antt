@@ -1,6 +1,6 @@
 -- Lines of the figures whose values are known: what an operation on two of them gives where the rounded value is at most the greatest
 -- number of the format, and the constants.
-use Rattle.theory.proofs.Prelude.{ℕ, ◌≤◌, ◌+◌, ◌^◌, ◌*◌, true, false, xor, ◌∙◌, ap, ◌≡◌, sym, refl, ap₂, subst, pow-zero, mul-one, zero-mul, arith, ℤ, pos, ◌+ℤ◌, nat_abs, ◌-ℤ◌, ◌*ℤ◌}
+use Rattle.theory.proofs.Prelude.{ℕ, ◌≤◌, ◌^◌, ◌*◌, true, false, xor, ◌∙◌, ap, ◌≡◌, sym, refl, ap₂, subst, pow-zero, mul-one, zero-mul, arith, ℤ, pos, ◌+ℤ◌, nat_abs, ◌-ℤ◌, ◌*ℤ◌}
 use native.Mathlib.Nat.{one-mul, mul-zero}
 use Rattle.theory.proofs.Words.{Wide, signed, round_z}
 use Rattle.theory.specs.declared.Direction.{Direction}

@@ -7,7 +7,8 @@ use Rattle.theory.proofs.Words.{◌and◌, unless, all, place, ufp, ulp}
 use Rattle.theory.proofs.Powers.{pow_pos}
 use Rattle.theory.proofs.Units.{ufp_power, ulp_pos}
 use Rattle.theory.proofs.Tests.{and_left, unless_passed, unless_failed}
-use Rattle.number.proofs.Prelude.{Format, Given, gives, refused, admitted, member, magnitude, number, checked, one_checked}
+use Rattle.number.proofs.Prelude.{Format, Prepared, Operand, Given, gives, refused, admitted, member, magnitude, number, number_of, known, checked, one_checked}
+use Rattle.number.specs.Signs.{with_sign}
 use Rattle.number.specs.declared.Number.{Number}
 use Rattle.theory.specs.declared.Direction.{Direction}
 use Rattle.format.specs.Directions.{is_direction, direction}
@@ -73,6 +74,16 @@ module _ {f : Format} (a : Admitted f) {x : Number} (i : Member f x) where
 
     pub figure5_is : figure5 f size ≡ gives (number f false (ulp f.base f.digits (magnitude f x)))
     figure5_is = given some (figure5_line (last (usable (admitted_made a) refl) x (member_made x a i) h) size_has)
+
+-- ---- |x| as the code makes it after the checks
+module _ {q : Prepared} {x y : Number} (i : Operand q x) (e : y ≡ with_sign x false) where
+  pub size_of : number q.format false (magnitude q.format x) ≡ y
+  size_of = let a = (known i.usable).admits in number_of a (members x a i.number) false ∙ sym e
+
+  pub size_member : member q.format y ≡ true
+  size_member =
+      let a = (known i.usable).admits in
+      ap (member q.format) (sym size_of) ∙ member_made _ a (signed_member a (members x a i.number) false)
 
 -- ---- the routes, refused numbers too
 -- the premises with the successor are those of |x|

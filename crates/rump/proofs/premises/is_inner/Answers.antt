@@ -13,7 +13,7 @@ use Rattle.rump.proofs.premises.is_inner.Goals as goal
 
 -- zero
 pub returns-then-x-eq0 : goal.returns-then-x-eq0
-returns-then-x-eq0 c = refuted (λ h. omega (arith, next_some c.args.prepared.format c.args.x h, no_magnitude c.args.prepared.format c.args.x c.if-x-eq0.taken))
+returns-then-x-eq0 c = refuted (λ h. omega (arith, next_some c.args.prepared.format c.args.x h, no_magnitude c.args.prepared.format c.args.x c.if-x-eq0.true))
 
 -- ---- the greatest number
 two_least : {q : Prepared} → Usable q → 2 ≤ q.format.base ^ q.format.digits
@@ -56,4 +56,4 @@ returns c =
     let x = c.args.x in
     let a = (known c.requires.usable).admits in
     c.is_smaller.ensures ∙ ap (ltb (magnitude f x)) (has_size bound)
-    ∙ next_by f x (some f x a.base_low c.if-x-eq0.left) (member_greatest a (members x a c.requires.number))
+    ∙ next_by f x (some f x a.base_low c.if-x-eq0.false) (member_greatest a (members x a c.requires.number))

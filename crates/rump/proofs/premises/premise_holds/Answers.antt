@@ -1,10 +1,10 @@
 -- `rump::premises::premise_holds` meets its contract.
 use Rattle.theory.proofs.Prelude.{Bool, ◌∙◌, ap, ◌≡◌, sym}
-use Rattle.theory.proofs.Tests.{never, refuted, granted}
+use Rattle.theory.proofs.Tests.{never, refuted}
 use Rattle.number.proofs.Prelude.{Format}
 use Rattle.number.specs.declared.Number.{Number}
 use Rattle.rump.specs.declared.Figure.{Figure}
-use Rattle.rump.specs.Premises.{Run, premise_of}
+use Rattle.rump.specs.Premises.{premise_of}
 use Rattle.rump.proofs.Reach.{of_format}
 use Rattle.rump.proofs.premises.premise_holds.Goals as goal
 
@@ -19,27 +19,23 @@ returns-then-not-exponents_suffice c =
 
 pub first_premise-requires : goal.first_premise-requires
 first_premise-requires c =
-    let run : Run c.args.prepared c.args.x = let s = c.requires in
-    record { usable = s.usable; kept = granted c.exponents_suffice.ensures c.if-not-exponents_suffice.false-raw; number = s.number } in
-    run
+    let s = c.requires in
+    record { usable = s.usable; kept = sym c.exponents_suffice.ensures ∙ c.if-not-exponents_suffice.false; number = s.number }
 
 pub last_premise-requires : goal.last_premise-requires
 last_premise-requires c =
-    let run : Run c.args.prepared c.args.x = let s = c.requires in
-    record { usable = s.usable; kept = granted c.exponents_suffice.ensures c.if-not-exponents_suffice.false-raw; number = s.number } in
-    run
+    let s = c.requires in
+    record { usable = s.usable; kept = sym c.exponents_suffice.ensures ∙ c.if-not-exponents_suffice.false; number = s.number }
 
 pub last_premise-requires-in-Fourth : goal.last_premise-requires-in-Fourth
 last_premise-requires-in-Fourth c =
-    let run : Run c.args.prepared c.args.x = let s = c.requires in
-    record { usable = s.usable; kept = granted c.exponents_suffice.ensures c.if-not-exponents_suffice.false-raw; number = s.number } in
-    run
+    let s = c.requires in
+    record { usable = s.usable; kept = sym c.exponents_suffice.ensures ∙ c.if-not-exponents_suffice.false; number = s.number }
 
 pub last_premise-requires-in-Fifth : goal.last_premise-requires-in-Fifth
 last_premise-requires-in-Fifth c =
-    let run : Run c.args.prepared c.args.x = let s = c.requires in
-    record { usable = s.usable; kept = granted c.exponents_suffice.ensures c.if-not-exponents_suffice.false-raw; number = s.number } in
-    run
+    let s = c.requires in
+    record { usable = s.usable; kept = sym c.exponents_suffice.ensures ∙ c.if-not-exponents_suffice.false; number = s.number }
 
 pub returns-in-First : goal.returns-in-First
 returns-in-First c = by _ _ c.in-First.is c.first_premise.ensures

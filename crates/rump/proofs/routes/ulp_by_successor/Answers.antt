@@ -1,61 +1,40 @@
 -- `rump::routes::ulp_by_successor` meets its contract.
-use Rattle.theory.proofs.Prelude.{true, false, [], ◌∷◌, ◌∙◌, ap, ◌≡◌, sym}
+use Rattle.theory.proofs.Prelude.{false, [], ◌∷◌, ◌∙◌}
 use Rattle.theory.specs.Tests.{unless}
 use Rattle.theory.specs.declared.Direction.{Direction}
-use Rattle.number.proofs.Prelude.{Format, refused, member, magnitude, number, Operand, members, member_made, known, number_of}
+use Rattle.number.proofs.Prelude.{Format, refused, magnitude, number, Operand, members, known}
 use Rattle.number.proofs.CheckLaws.{first_direction, operand}
-use Rattle.number.proofs.Negation.{signed_member}
 use Rattle.arithmetic.proofs.Entries.{Entered, directed, numbered, call_enters, call_answers, call_ends}
 use Rattle.rump.specs.Premises.{next_premise}
 use Rattle.rump.specs.Figures.{gap_above}
 use Rattle.rump.specs.Routes.{ulp_by_successor}
-use Rattle.rump.proofs.RouteLaws.{last_of_size}
+use Rattle.rump.proofs.RouteLaws.{last_of_size, size_of, size_member}
 use Rattle.rump.proofs.routes.ulp_by_successor.Goals as goal
 
--- |x|
-module _ (w : goal.After-with_sign) where
-  abbrev told : goal.In-Ready-2
-  told = w
-
-  abbrev f : Format
-  f = told.in-Ready.prepared.format
-
-  size : number f false (magnitude f (start told).args.x) ≡ w.with_sign.result
-  size =
-      let i = inside told in
-      let a = (known i.usable).admits in
-      number_of a (members _ a i.number) false ∙ sym w.with_sign.ensures
-
-  size-member : member f w.with_sign.result ≡ true
-  size-member =
-      let i = inside told in
-      let a = (known i.usable).admits in
-      ap (member f) (sym size) ∙ member_made _ a (signed_member a (members _ a i.number) false)
+pub direction_of-requires : goal.direction_of-requires
+direction_of-requires c =
+    let checks : Entered c.args.format c.args.direction (c.args.x ∷ []) c.with_number.result = numbered (directed c.prepare.ensures c.with_direction.ensures) c.with_number.ensures in
+    first_direction (call_enters checks c.in-Ready.is)
 
 pub last_by_successor-requires : goal.last_by_successor-requires
-last_by_successor-requires w κs = let i = inside (told w) in record { usable = i.usable; number = size-member w }
-
-pub returns-in-Ready : goal.returns-in-Ready
-unfolding ulp_by_successor
-returns-in-Ready c =
-    let checks : let s = c.args in Entered s.format s.direction (s.x ∷ []) c.with_number.result = numbered (directed c.prepare.ensures c.with_direction.ensures) c.with_number.ensures in
-    let inside : Operand c.in-Ready.prepared c.args.x = operand (call_enters checks c.in-Ready.is) in
-    let t = told c in
-    let s = c.args in
-    let i = inside in
-    let a = (known i.usable).admits in
-    c.last_by_successor.ensures ∙ last_of_size a (members _ a i.number) _ (size c)
-    ∙ call_answers checks t.in-Ready.is
-    (λ (g : Format) (d : Direction). unless (next_premise g s.x) (refused 8) (gap_above g d (number g false (magnitude g s.x)))) c.direction_of.ensures
-
-pub direction_of-requires : goal.direction_of-requires
-unfolding ulp_by_successor
-direction_of-requires c =
-    let checks : let s = c.args in Entered s.format s.direction (s.x ∷ []) c.with_number.result = numbered (directed c.prepare.ensures c.with_direction.ensures) c.with_number.ensures in
-    first_direction (call_enters checks c.in-Ready.is)
+last_by_successor-requires c =
+    let checks : Entered c.args.format c.args.direction (c.args.x ∷ []) c.with_number.result = numbered (directed c.prepare.ensures c.with_direction.ensures) c.with_number.ensures in
+    let i : Operand c.in-Ready.prepared c.args.x = operand (call_enters checks c.in-Ready.is) in
+    record { usable = i.usable; number = size_member i c.with_sign.ensures }
 
 pub returns-in-Refused : goal.returns-in-Refused
 unfolding ulp_by_successor
 returns-in-Refused c =
-    let checks : let s = c.args in Entered s.format s.direction (s.x ∷ []) c.with_number.result = numbered (directed c.prepare.ensures c.with_direction.ensures) c.with_number.ensures in
+    let checks : Entered c.args.format c.args.direction (c.args.x ∷ []) c.with_number.result = numbered (directed c.prepare.ensures c.with_direction.ensures) c.with_number.ensures in
     call_ends checks c.in-Refused.is _
+
+pub returns-in-Ready : goal.returns-in-Ready
+unfolding ulp_by_successor
+returns-in-Ready c =
+    let checks : Entered c.args.format c.args.direction (c.args.x ∷ []) c.with_number.result = numbered (directed c.prepare.ensures c.with_direction.ensures) c.with_number.ensures in
+    let i : Operand c.in-Ready.prepared c.args.x = operand (call_enters checks c.in-Ready.is) in
+    let a = (known i.usable).admits in
+    let x = c.args.x in
+    c.last_by_successor.ensures ∙ last_of_size a (members x a i.number) _ (size_of i c.with_sign.ensures)
+    ∙ call_answers checks c.in-Ready.is
+    (λ (g : Format) (d : Direction). unless (next_premise g x) (refused 8) (gap_above g d (number g false (magnitude g x)))) c.direction_of.ensures

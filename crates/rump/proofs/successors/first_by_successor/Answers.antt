@@ -1,6 +1,6 @@
 -- `rump::successors::first_by_successor` meets its contract.
 use Rattle.theory.proofs.Prelude.{true, ◌∙◌, ap, ◌≡◌, sym}
-use Rattle.theory.proofs.Tests.{and_failed, unless_failed, granted}
+use Rattle.theory.proofs.Tests.{and_failed, unless_failed}
 use Rattle.number.proofs.Prelude.{gives, number_given, member, known}
 use Rattle.arithmetic.specs.Operations.{rounded_product}
 use Rattle.arithmetic.specs.Marked.{without_mark}
@@ -17,7 +17,7 @@ returns-then-not-has_lead c = sym (unless_failed _ _ (and_failed _ (sym c.has_le
 
 pub multiply-requires : goal.multiply-requires
 multiply-requires c =
-    let lead_holds : lead_premise c.args.prepared.format ≡ true = granted c.has_lead.ensures c.if-not-has_lead.false-raw in
+    let lead_holds : lead_premise c.args.prepared.format ≡ true = sym c.has_lead.ensures ∙ c.if-not-has_lead.false in
     let f = c.args.prepared.format in
     let a = (known c.requires.0.usable).admits in
     record {
@@ -28,7 +28,7 @@ multiply-requires c =
 
 pub returns-in-Refused : goal.returns-in-Refused
 returns-in-Refused c =
-    let lead_holds : lead_premise c.args.prepared.format ≡ true = granted c.has_lead.ensures c.if-not-has_lead.false-raw in
+    let lead_holds : lead_premise c.args.prepared.format ≡ true = sym c.has_lead.ensures ∙ c.if-not-has_lead.false in
     let multiplied : let f = c.args.prepared.format in
     number_given c.unmarked.result ≡ rounded_product f c.args.direction c.args.x (lead f) = c.unmarked.ensures ∙ ap without_mark c.multiply.ensures ∙ marked_number _ _ _ _
     ∙ ap (rounded_product c.args.prepared.format c.args.direction c.args.x) c.lead.ensures in
@@ -36,7 +36,7 @@ returns-in-Refused c =
 
 pub last_by_successor-requires : goal.last_by_successor-requires
 last_by_successor-requires c =
-    let lead_holds : lead_premise c.args.prepared.format ≡ true = granted c.has_lead.ensures c.if-not-has_lead.false-raw in
+    let lead_holds : lead_premise c.args.prepared.format ≡ true = sym c.has_lead.ensures ∙ c.if-not-has_lead.false in
     let multiplied : let f = c.args.prepared.format in
     number_given c.unmarked.result ≡ rounded_product f c.args.direction c.args.x (lead f) = c.unmarked.ensures ∙ ap without_mark c.multiply.ensures ∙ marked_number _ _ _ _
     ∙ ap (rounded_product c.args.prepared.format c.args.direction c.args.x) c.lead.ensures in
@@ -49,7 +49,7 @@ last_by_successor-requires c =
 
 pub returns-in-Value : goal.returns-in-Value
 returns-in-Value c =
-    let lead_holds : lead_premise c.args.prepared.format ≡ true = granted c.has_lead.ensures c.if-not-has_lead.false-raw in
+    let lead_holds : lead_premise c.args.prepared.format ≡ true = sym c.has_lead.ensures ∙ c.if-not-has_lead.false in
     let multiplied : let f = c.args.prepared.format in
     number_given c.unmarked.result ≡ rounded_product f c.args.direction c.args.x (lead f) = c.unmarked.ensures ∙ ap without_mark c.multiply.ensures ∙ marked_number _ _ _ _
     ∙ ap (rounded_product c.args.prepared.format c.args.direction c.args.x) c.lead.ensures in
@@ -61,6 +61,4 @@ pub has_lead-requires : goal.has_lead-requires
 has_lead-requires c = c.requires.0.usable
 
 pub lead-requires : goal.lead-requires
-lead-requires c =
-    let lead_holds : lead_premise c.args.prepared.format ≡ true = granted c.has_lead.ensures c.if-not-has_lead.false-raw in
-    (c.requires.0.usable, lead_holds)
+lead-requires c = (c.requires.0.usable, sym c.has_lead.ensures ∙ c.if-not-has_lead.false)
