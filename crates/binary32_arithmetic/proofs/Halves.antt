@@ -1,6 +1,5 @@
 -- Two magnitudes of at most half the greatest number add up to one that is not too large, in every direction.
-use Rattle.theory.proofs.Prelude.{ℕ, ◌≤◌, ◌<◌, ◌+◌, ◌^◌, ◌*◌, ◌-◌, ◌%◌, true, false, Bool, ◌∙◌, ap, ◌≡◌, sym, refl, mul-le-mul_left, le_trans, le_of_eq, arith, ℤ, ◌+ℤ◌, nat_abs}
-use Rattle.theory.specs.Tests.{◌and◌}
+use Rattle.theory.proofs.Prelude.{ℕ, ◌≤◌, ◌<◌, ◌+◌, ◌^◌, ◌*◌, ◌%◌, true, false, Bool, ◌∙◌, ap, ◌≡◌, sym, refl, mul-le-mul_left, le_trans, le_of_eq, arith, ℤ, ◌+ℤ◌, nat_abs}
 use Rattle.theory.specs.declared.Direction.{Direction}
 use Rattle.theory.specs.Signed.{is_negative, round_z}
 use Rattle.theory.proofs.Tests.{and_made, unless_passed}

@@ -8,20 +8,24 @@ use Rattle.binary32_arithmetic.proofs.operations.pattern_difference.Goals as goa
 
 pub marked_difference-requires : goal.marked_difference-requires
 marked_difference-requires c =
-    let read : let s = c.args in let g = c.d-1.given.0 in
-    Read s.direction s.a s.b g.0 g.1.0 g.1.1.0 = call_ready _ _ _ (sym c.read_call.ensures ∙ c.in-Ready.is) in
+    let s = c.args in
+    let g = c.in-Ready in
+    let read : Read s.direction s.a s.b g.d g.x g.y = call_ready _ _ _ (sym c.read_call.ensures ∙ g.is) in
     constant_operands c.prepared_binary32.ensures read.first read.second
 
 pub write_rounded-requires : goal.write_rounded-requires
-write_rounded-requires c = (λ c κs x h. let g = c.d-1.given.0 in result_member Difference g.0 g.1.0 g.1.1.0 (sym (result c) ∙ ap rounded_given h)) c
+write_rounded-requires c x h =
+    let g = c.in-Ready in
+    let result : rounded_given c.marked_difference.result ≡ marked_by Difference binary32 g.d g.x g.y = c.marked_difference.ensures ∙ constant_format c.prepared_binary32.ensures Difference g.d g.x g.y in
+    result_member Difference g.d g.x g.y (sym result ∙ ap rounded_given h)
 
 pub returns-in-Refused : goal.returns-in-Refused
 returns-in-Refused c = call_refused _ _ _ (sym c.read_call.ensures ∙ c.in-Refused.is) Difference
 
 pub returns-in-Ready : goal.returns-in-Ready
 returns-in-Ready c =
-    let read : let s = c.args in let g = c.d-1.given.0 in
-    Read s.direction s.a s.b g.0 g.1.0 g.1.1.0 = call_ready _ _ _ (sym c.read_call.ensures ∙ c.in-Ready.is) in
-    let result : let g = c.d-1.given.0 in
-    rounded_given c.marked_difference.result ≡ marked_by Difference binary32 g.0 g.1.0 g.1.1.0 = let g = c.d-1.given.0 in c.marked_difference.ensures ∙ constant_format c.prepared_binary32.ensures Difference g.0 g.1.0 g.1.1.0 in
+    let s = c.args in
+    let g = c.in-Ready in
+    let read : Read s.direction s.a s.b g.d g.x g.y = call_ready _ _ _ (sym c.read_call.ensures ∙ g.is) in
+    let result : rounded_given c.marked_difference.result ≡ marked_by Difference binary32 g.d g.x g.y = c.marked_difference.ensures ∙ constant_format c.prepared_binary32.ensures Difference g.d g.x g.y in
     c.write_rounded.ensures ∙ ap rounded_written result ∙ read.is Difference

@@ -1,7 +1,7 @@
 -- `binary32_arithmetic::slices::examine` meets its contract.
 use Rattle.theory.proofs.Prelude.{true, ◌∙◌, ap, ap₂, ◌≡◌, sym, ltb-true}
 use Rattle.theory.specs.Tests.{◌and◌}
-use Rattle.theory.proofs.Tests.{and_left, and_right, granted, unless_passed, unless_failed}
+use Rattle.theory.proofs.Tests.{and_left, and_right, unless_passed, unless_failed}
 use Rattle.format.specs.declared.Format.{Format}
 use Rattle.format.specs.Published.{binary32}
 use Rattle.number.specs.Answers.{number_given}
@@ -25,14 +25,14 @@ returns-then-not-are_finite c = sym (ap passes (alone Sum _ _ _ ∙ unless_faile
 
 pub add-requires : goal.add-requires
 add-requires c =
-    let both : let s = c.args in finite s.a and finite s.b ≡ true = granted c.are_finite.ensures c.if-not-are_finite.false-raw in
+    let both : let s = c.args in finite s.a and finite s.b ≡ true = sym c.are_finite.ensures ∙ c.if-not-are_finite.false in
     let h = both in
     constant_operands c.prepared_binary32.ensures (pattern_member _ (and_left _ _ h) c.read_finite.ensures)
     (pattern_member _ (and_right _ _ h) c.read_finite-2.ensures)
 
 pub returns-in-Value : goal.returns-in-Value
 returns-in-Value c =
-    let both : let s = c.args in finite s.a and finite s.b ≡ true = granted c.are_finite.ensures c.if-not-are_finite.false-raw in
+    let both : let s = c.args in finite s.a and finite s.b ≡ true = sym c.are_finite.ensures ∙ c.if-not-are_finite.false in
     let entry : let s = c.args in
     answer_written (number_given c.add.result) ≡ entry_sum s.direction s.a s.b = let s = c.args in
     ap answer_written
@@ -44,7 +44,7 @@ returns-in-Value c =
 
 pub returns-in-Refused : goal.returns-in-Refused
 returns-in-Refused c =
-    let both : let s = c.args in finite s.a and finite s.b ≡ true = granted c.are_finite.ensures c.if-not-are_finite.false-raw in
+    let both : let s = c.args in finite s.a and finite s.b ≡ true = sym c.are_finite.ensures ∙ c.if-not-are_finite.false in
     let entry : let s = c.args in
     answer_written (number_given c.add.result) ≡ entry_sum s.direction s.a s.b = let s = c.args in
     ap answer_written
@@ -56,10 +56,10 @@ returns-in-Refused c =
 
 pub read_finite-requires : goal.read_finite-requires
 read_finite-requires c =
-    let both : let s = c.args in finite s.a and finite s.b ≡ true = granted c.are_finite.ensures c.if-not-are_finite.false-raw in
+    let both : let s = c.args in finite s.a and finite s.b ≡ true = sym c.are_finite.ensures ∙ c.if-not-are_finite.false in
     and_left _ _ both
 
 pub read_finite-requires-2 : goal.read_finite-requires-2
 read_finite-requires-2 c =
-    let both : let s = c.args in finite s.a and finite s.b ≡ true = granted c.are_finite.ensures c.if-not-are_finite.false-raw in
+    let both : let s = c.args in finite s.a and finite s.b ≡ true = sym c.are_finite.ensures ∙ c.if-not-are_finite.false in
     and_right _ _ both

@@ -1,7 +1,7 @@
 -- `binary32_arithmetic::slices::sum_entry` meets its contract.
 use Rattle.theory.proofs.Prelude.{true, ◌∙◌, ap, ◌≡◌, sym, ap₂}
 use Rattle.theory.specs.Tests.{◌and◌}
-use Rattle.theory.proofs.Tests.{and_left, and_right, granted, unless_passed, unless_failed}
+use Rattle.theory.proofs.Tests.{and_left, and_right, unless_passed, unless_failed}
 use Rattle.format.specs.declared.Format.{Format}
 use Rattle.format.specs.Published.{binary32}
 use Rattle.number.proofs.Membership.{prepared_format, prepared_member, usable}
@@ -20,7 +20,7 @@ returns-then-not-are_finite c = ap entry_written (sym (unless_failed _ _ (sym c.
 
 pub marked_sum-requires : goal.marked_sum-requires
 marked_sum-requires c =
-    let both : let s = c.args in finite s.a and finite s.b ≡ true = granted c.are_finite.ensures c.if-not-are_finite.false-raw in
+    let both : let s = c.args in finite s.a and finite s.b ≡ true = sym c.are_finite.ensures ∙ c.if-not-are_finite.false in
     let h = both in
     let e = c.prepared_binary32.ensures in
     record {
@@ -39,18 +39,18 @@ write_rounded-requires c =
 
 pub read_finite-requires : goal.read_finite-requires
 read_finite-requires c =
-    let both : let s = c.args in finite s.a and finite s.b ≡ true = granted c.are_finite.ensures c.if-not-are_finite.false-raw in
+    let both : let s = c.args in finite s.a and finite s.b ≡ true = sym c.are_finite.ensures ∙ c.if-not-are_finite.false in
     and_left _ _ both
 
 pub read_finite-requires-2 : goal.read_finite-requires-2
 read_finite-requires-2 c =
-    let both : let s = c.args in finite s.a and finite s.b ≡ true = granted c.are_finite.ensures c.if-not-are_finite.false-raw in
+    let both : let s = c.args in finite s.a and finite s.b ≡ true = sym c.are_finite.ensures ∙ c.if-not-are_finite.false in
     and_right _ _ both
 
 pub returns-in-Refused : goal.returns-in-Refused
 unfolding on_patterns
 returns-in-Refused c =
-    let both : let s = c.args in finite s.a and finite s.b ≡ true = granted c.are_finite.ensures c.if-not-are_finite.false-raw in
+    let both : let s = c.args in finite s.a and finite s.b ≡ true = sym c.are_finite.ensures ∙ c.if-not-are_finite.false in
     let summed : let s = c.args in
     rounded_given c.marked_sum.result ≡ marked_sum binary32 s.direction c.read_finite.result c.read_finite-2.result = c.marked_sum.ensures
     ∙ ap (λ (f : Format). marked_sum f c.args.direction c.read_finite.result c.read_finite-2.result)
@@ -64,7 +64,7 @@ returns-in-Refused c =
 pub returns-in-Written : goal.returns-in-Written
 unfolding on_patterns
 returns-in-Written c =
-    let both : let s = c.args in finite s.a and finite s.b ≡ true = granted c.are_finite.ensures c.if-not-are_finite.false-raw in
+    let both : let s = c.args in finite s.a and finite s.b ≡ true = sym c.are_finite.ensures ∙ c.if-not-are_finite.false in
     let summed : let s = c.args in
     rounded_given c.marked_sum.result ≡ marked_sum binary32 s.direction c.read_finite.result c.read_finite-2.result = c.marked_sum.ensures
     ∙ ap (λ (f : Format). marked_sum f c.args.direction c.read_finite.result c.read_finite-2.result)

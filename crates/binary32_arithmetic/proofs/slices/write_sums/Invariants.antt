@@ -1,7 +1,6 @@
 -- `binary32_arithmetic::slices::write_sums` meets its contract: what is written and the sums of the rest are all sums, and so are the
 -- counts of those that are not exact.
 use Rattle.theory.proofs.Prelude.{◌≤◌, ◌+◌, ◌-◌, ◌++◌, ◌≡◌, length, drop, take}
-use Rattle.theory.specs.Marks.{inexact}
 use Rattle.binary32_arithmetic.specs.Slices.{sums, inexact_entries}
 use Rattle.binary32_arithmetic.proofs.slices.write_sums.Given as goal
 
