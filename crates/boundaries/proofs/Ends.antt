@@ -1,6 +1,6 @@
 -- What boundary_sum answers, in the words of request 14: each refusal exactly where its condition holds and no earlier one does; THE
 -- BOUND of what is summed; a lone strip comes back as it is; `rests` keeps its length, and at a refusal its entries.
-use Rattle.theory.proofs.Prelude.{ℕ, ◌≤◌, ◌<◌, suc, zero, true, false, Bool, [], ◌∷◌, List, ◌∙◌, ap, ◌≡◌, sym, refl, subst, arith, eqb, leb, length, get_or, le-leb, leb-true, leb-false, eqb-true, eqb-false}
+use Rattle.theory.proofs.Prelude.{ℕ, ◌≤◌, ◌<◌, suc, zero, true, false, Bool, [], ◌∷◌, List, ◌∙◌, ap, ◌≡◌, sym, refl, subst, arith, eqb, leb, length, le-leb, leb-true, leb-false, eqb-true, eqb-false}
 use Rattle.theory.specs.Tests.{◌and◌, unless}
 use Rattle.theory.specs.Lists.{first_where, none}
 use Rattle.theory.proofs.Tests.{never, and_left, and_right, and_made}
@@ -13,7 +13,7 @@ use Rattle.binary32.specs.Patterns.{finite, not_finite}
 use Rattle.binary32.proofs.PatternValues.{finite_made, finite_fails}
 use Rattle.boundaries.specs.Sums.{steps_from, boundary_steps, last_x, rests_of, first_of, strips_summed, boundary_answer, written_where, boundary_rests}
 use Rattle.boundaries.specs.Totals.{total_of, TotalBound}
-use Rattle.boundaries.specs.Outcomes.{AllFinite, Counted, Entered, NotFiniteAt, TooLargeAt, Summed, Ends, strip_count, second_length, no_direction, not_finite_case, too_large, all_added}
+use Rattle.boundaries.specs.Outcomes.{AllFinite, Counted, Entered, Summed, Ends, strip_count, second_length, no_direction, not_finite_case, too_large, all_added}
 use Rattle.boundaries.proofs.Passes.{rests_length}
 use Rattle.boundaries.proofs.Bounds.{From, from}
 

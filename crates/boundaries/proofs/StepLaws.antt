@@ -13,7 +13,7 @@ use Rattle.format.specs.Published.{binary32}
 use Rattle.format.proofs.GivenLaws.{gives_same, gives_not_refused}
 use Rattle.number.specs.declared.Number.{Number}
 use Rattle.number.specs.declared.Ordering.TheVariants.{Less, Equal, Greater}
-use Rattle.number.specs.Numbers.{member, magnitude, value, greatest}
+use Rattle.number.specs.Numbers.{member, magnitude, value}
 use Rattle.number.specs.Order.{order_n}
 use Rattle.number.proofs.Comparison.{size_less_says, size_equal_says, size_greater_says}
 use Rattle.arithmetic.specs.Operations.{rounded_sum}

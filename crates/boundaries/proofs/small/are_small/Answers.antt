@@ -1,5 +1,5 @@
 -- `boundaries::small::are_small` meets its contract: every strip that was passed is small.
-use Rattle.theory.proofs.Prelude.{◌-◌, true, sym, arith, rules, ◌∙◌}
+use Rattle.theory.proofs.Prelude.{sym, arith, rules, ◌∙◌}
 use borrow.Author.Count.{below_more}
 use Rattle.theory.proofs.Lists.{all_made, all_fails}
 use Rattle.boundaries.specs.Steps.{small_strip}

@@ -20,7 +20,7 @@ add-requires c =
 
 -- a number that is given is in the format
 pub write_answer-requires : goal.write_answer-requires
-write_answer-requires c κs x h =
+write_answer-requires c x h =
     let e = c.prepared_binary32.ensures in
     subst (λ (f : Format). member f x ≡ true) (prepared_format e) (sum_member (known (usable binary32_admitted e)).admits _ c.read_finite.result c.read_finite-2.result (sym c.add.ensures ∙ ap number_given h))
 
