@@ -1,0 +1,13 @@
+-- `c_api::lines::zurkeb_nearest_lines` meets its contract.
+use Rattle.theory.proofs.Prelude.{ℕ, ◌∙◌, ap}
+use Rattle.format.specs.Given.{Given}
+use Rattle.saved_lines.specs.Rows.{row_written}
+use Rattle.c_api.specs.Answers.{count_out}
+use Rattle.c_api.proofs.lines.zurkeb_nearest_lines.Goals as goal
+
+pub returns : goal.returns
+returns c =
+    let s = c.args in (
+      c.line_out.ensures ∙ ap count_out c.nearest_lines-answer.ensures.0,
+      c.nearest_lines-answer.ensures.1 ∙ ap (λ (x : Given ℕ). row_written x s.offsets.now s.queries.now s.out-1.now) c.nearest_lines-answer.ensures.0,
+    )
