@@ -9,6 +9,6 @@ sign b = cond b 1 0
 
 pub returns : goal.returns
 returns c =
-    let signed : c.if-x.negative ≡ sign c.args.x.negative = elim c.if-x.branch [ then-x w ↦ w.VAR-is ∙ ap sign (sym w.if-x.true) | else-x w ↦ w.VAR-is ∙ ap sign (sym w.if-x.false) ] in
+    let signed : c.if-x.negative ≡ sign c.args.x.negative = elim c.if-x.branch [ then-x w ↦ w.negative-is ∙ ap sign (sym w.if-x.true) | else-x w ↦ w.negative-is ∙ ap sign (sym w.if-x.false) ] in
     let e_fits : SFits w32 c.args.x.exponent = search rules in
     rw (back e_fits) (rw signed refl)

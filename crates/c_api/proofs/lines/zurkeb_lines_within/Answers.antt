@@ -7,7 +7,8 @@ use Rattle.c_api.proofs.lines.zurkeb_lines_within.Goals as goal
 
 pub returns : goal.returns
 returns c =
-    let s = c.args in (
-      c.line_out.ensures ∙ ap count_out c.lines_within-answer.ensures.0,
-      c.lines_within-answer.ensures.1 ∙ ap (λ (x : Given ℕ). within_written x (lines_in_order s.offsets.now s.query s.distance) s.out-1.now) c.lines_within-answer.ensures.0,
-    )
+    let s = c.args in
+    record {
+      answer = c.line_out.ensures ∙ ap count_out c.lines_within-answer.ensures.answer;
+      written = c.lines_within-answer.ensures.written ∙ ap (λ (x : Given ℕ). within_written x (lines_in_order s.offsets.now s.query s.distance) s.out.now) c.lines_within-answer.ensures.answer;
+    }

@@ -7,7 +7,8 @@ use Rattle.c_api.proofs.lines.zurkeb_nearest_lines.Goals as goal
 
 pub returns : goal.returns
 returns c =
-    let s = c.args in (
-      c.line_out.ensures ∙ ap count_out c.nearest_lines-answer.ensures.0,
-      c.nearest_lines-answer.ensures.1 ∙ ap (λ (x : Given ℕ). row_written x s.offsets.now s.queries.now s.out-1.now) c.nearest_lines-answer.ensures.0,
-    )
+    let s = c.args in
+    record {
+      answer = c.line_out.ensures ∙ ap count_out c.nearest_lines-answer.ensures.answer;
+      written = c.nearest_lines-answer.ensures.written ∙ ap (λ (x : Given ℕ). row_written x s.offsets.now s.queries.now s.out.now) c.nearest_lines-answer.ensures.answer;
+    }

@@ -8,7 +8,8 @@ use Rattle.c_api.proofs.patterns.zurkeb_sum_slices.Goals as goal
 
 pub returns : goal.returns
 returns c =
-    let s = c.args in (
-      c.slices_out.ensures ∙ ap slices_out c.sum_slices-answer.ensures.0,
-      c.sum_slices-answer.ensures.1 ∙ ap (λ (r : Given ℕ). slices_written r (sums (direction s.direction) s.a.now s.b.now) s.out-1.now) c.sum_slices-answer.ensures.0,
-    )
+    let s = c.args in
+    record {
+      answer = c.slices_out.ensures ∙ ap slices_out c.sum_slices-answer.ensures.answer;
+      written = c.sum_slices-answer.ensures.written ∙ ap (λ (r : Given ℕ). slices_written r (sums (direction s.direction) s.a.now s.b.now) s.out.now) c.sum_slices-answer.ensures.answer;
+    }
