@@ -8,6 +8,7 @@
 enum { SIMPLE = 1024 };
 
 typedef zurkeb_rounded_answer (*our_call)(zurkeb_format, uint32_t, zurkeb_number, zurkeb_number);
+typedef zurkeb_number_answer (*route_call)(zurkeb_format, uint32_t, zurkeb_number);
 typedef uint64_t (*pattern_call)(uint32_t, uint32_t, uint32_t);
 
 static pair pairs[SIMPLE];
@@ -54,6 +55,21 @@ static uint64_t one_step_pass(zurkeb_format format) {
     return used;
 }
 
+/* Fractions of whole numbers from 1 to 999. */
+static uint64_t fractions_pass(zurkeb_format format) {
+    uint64_t used = 0;
+    for (int i = 0; i < SIMPLE; i++)
+        used ^= zurkeb_fraction(format, ZURKEB_NEAREST_EVEN, (int32_t)(words[i] % 999 + 1), (uint32_t)(words[i] / 999 % 999 + 1)).number.significand;
+    return used;
+}
+
+static uint64_t routes_pass(route_call call, zurkeb_format format) {
+    uint64_t used = 0;
+    for (int i = 0; i < SIMPLE; i++)
+        used ^= call(format, ZURKEB_NEAREST_EVEN, pairs[i].a).number.significand;
+    return used;
+}
+
 static uint64_t patterns_pass(pattern_call call) {
     uint64_t used = 0;
     for (int i = 0; i < SIMPLE; i++)
@@ -79,6 +95,12 @@ static uint64_t pass(const char *name, zurkeb_format format) {
         return words_pass(format);
     if (strcmp(name, "within_one_step") == 0)
         return one_step_pass(format);
+    if (strcmp(name, "fraction") == 0)
+        return fractions_pass(format);
+    if (strcmp(name, "ufp_by_successor") == 0)
+        return routes_pass(zurkeb_ufp_by_successor, format);
+    if (strcmp(name, "ulp_by_successor") == 0)
+        return routes_pass(zurkeb_ulp_by_successor, format);
     if (strcmp(name, "sum_slices") == 0)
         return zurkeb_sum_slices(left, SIMPLE, right, SIMPLE, out, SIMPLE, ZURKEB_NEAREST_EVEN).inexact;
     return quotients_pass(format);
