@@ -3,7 +3,7 @@ ghost use Rattle.std.specs.Prelude.{◌≡◌, true, ◌+◌, ◌*◌, ◌^◌, 
 ghost use Rattle.decimal32.specs.Declets.{declet_value, holds_declets, declet_bits, declet_for};
 
 // The number below 1000 that each of the 1,024 declets stands for, the 24 non-canonical ones included.
-const DECLETS: [u16; 1024] = [
+static DECLETS: [u16; 1024] = [
     0, 1, 2, 3, 4, 5, 6, 7, 8, 9, 80, 81, 800, 801, 880, 881, 10, 11, 12, 13, 14, 15, 16, 17, 18,
     19, 90, 91, 810, 811, 890, 891, 20, 21, 22, 23, 24, 25, 26, 27, 28, 29, 82, 83, 820, 821, 808,
     809, 30, 31, 32, 33, 34, 35, 36, 37, 38, 39, 92, 93, 830, 831, 818, 819, 40, 41, 42, 43, 44,
@@ -74,13 +74,13 @@ fn entry(table: &[u16; 1024], declet: u32) -> u32
     widened(table[declet as usize])
 }
 
-// The six digits of two declets. Each call that reads the table lays it out anew, so that one call reads both entries.
+// The six digits of two declets.
 pub fn six_digits(first: u32, second: u32) -> u32
     requires { (first < 1024) × (second < 1024) }
     ensures { result ≡ declet_value first * 10 ^ 3 + declet_value second }
 {
-    let table = DECLETS;
-    entry(&table, first) * 1000 + entry(&table, second)
+    let table = &DECLETS;
+    entry(table, first) * 1000 + entry(table, second)
 }
 
 // The ten bits: pq, st and vwx as numbers, and each digit's own last bit.
