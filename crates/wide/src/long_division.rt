@@ -1,5 +1,5 @@
 // A fraction n / d of whole numbers, worked out digit by digit in the base of a format.
-ghost use Rattle.std.specs.Prelude.{◌≡◌, ℕ, ◌*◌, ◌<◌, ◌≤◌, ◌^◌};
+ghost use Rattle.std.specs.Prelude.{◌≡◌, ℕ, ◌*◌, ◌/◌, ◌%◌, ◌<◌, ◌≤◌, ◌^◌};
 ghost use Rattle.format.specs.Formats.{Scaled};
 ghost use Rattle.rounding.specs.Cut.{cut_of, Rounds};
 ghost use Rattle.wide.specs.Division.{Divided, Ended, Quotient, Start};
@@ -9,6 +9,7 @@ use rounding::choice::{finish, locate};
 use rounding::cutting::exact_cut;
 use rounding::{Cut, Rounding};
 use theory::{Direction, Location};
+use two_words::WordQuotient;
 
 // The divisor d * base ^ place, which is above n.
 #[derive(Clone, Copy)]
@@ -39,6 +40,29 @@ fn align(base: u32, n: u32, d: u32) -> Aligned
         place = place + 1;
     }
     Aligned { divisor, place }
+}
+
+// The next digit, how often the divisor goes into n, and what remains: in base 2 by a comparison, else by a machine division.
+fn next_digit(base: u32, n: u64, divisor: u64) -> WordQuotient
+    requires { (1 ≤ divisor) × (n < divisor * base) }
+    ensures { (result.quotient ≡ n / divisor) × (result.remainder ≡ n % divisor) }
+{
+    if base != 2 {
+        return WordQuotient {
+            quotient: n / divisor,
+            remainder: n % divisor,
+        };
+    }
+    if n < divisor {
+        return WordQuotient {
+            quotient: 0,
+            remainder: n,
+        };
+    }
+    WordQuotient {
+        quotient: 1,
+        remainder: n - divisor,
+    }
 }
 
 // The digits of n / divisor, of which `places` stand at or above the lowest place, one each turn. The loop ends as soon as all digits of
@@ -73,9 +97,9 @@ fn take_digits(scale: Scale, n: u32, divisor: u64, places: u32) -> Division
                 place,
             };
         }
-        let lowered = remainder * base;
-        quotient = quotient * base + lowered / divisor;
-        remainder = lowered % divisor;
+        let next = next_digit(scale.base, remainder * base, divisor);
+        quotient = quotient * base + next.quotient;
+        remainder = next.remainder;
         place = place - 1;
     };
     division

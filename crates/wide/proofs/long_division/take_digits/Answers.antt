@@ -1,7 +1,7 @@
 -- `wide::long_division::take_digits` meets its contract. The invariant: the digits down to `place` have been taken, no place before was
 -- an end, and the quotient has at most the digits of the format. What the loop yields at each of its three ends is the invariant with
 -- the test that ended it.
-use Rattle.theory.proofs.Prelude.{◌≤◌, ◌<◌, ◌+◌, ◌*◌, ◌/◌, ◌^◌, mul-le-mul_right, arith}
+use Rattle.theory.proofs.Prelude.{◌≤◌, ◌<◌, ◌+◌, ◌*◌, ◌/◌, ◌^◌, mul-le-mul_right, mul-lt-mul_of_pos_right, arith}
 use Rattle.rounding.proofs.Prelude.{bound_pos}
 use Rattle.wide.specs.declared.long_division.Division.{Division}
 use Rattle.wide.specs.Division.{Ended, Divided, all_digits, lowest_place, no_rest}
@@ -14,16 +14,25 @@ loop-quotient-preserved c =
     let rest : c.loop-quotient.remainder < c.args.divisor = (taken_exact c.args.scale.base c.requires.2 c.loop-quotient.invariant.0).1 in
     let goes_on : ¬ Ended c.args.scale state = not_ended (omega (arith, c.if-scale-quotient.false)) (omega (arith, c.if-place-eq0.false)) c.if-remainder-eq0.false in
     let next : let s = c.args.scale in c.loop-quotient.quotient * s.base + c.loop-quotient.remainder * s.base / c.args.divisor < s.bound = fits_next c.requires.0 rest (omega (arith, c.if-scale-quotient.false)) in
-    let taken = c.loop-quotient.invariant.0 in
-    (taken_next c.args.scale.base c.requires.2 taken (omega arith), no_end_next state taken goes_on c.loop-quotient.invariant.1, next)
+    let digit_fits : c.loop-quotient.quotient * c.args.scale.base + c.next_digit-next.result.quotient < c.args.scale.bound = omega (arith, c.next_digit-next.ensures.0, next) in
+    let taken = c.loop-quotient.invariant.0 in (
+      rw (c.next_digit-next.ensures.0, c.next_digit-next.ensures.1) (taken_next c.args.scale.base c.requires.2 taken (omega arith)),
+      no_end_next state taken goes_on c.loop-quotient.invariant.1,
+      digit_fits,
+    )
 
 -- one word holds what remains, lowered by a place
-pub overflow_mul-lowered : goal.overflow_mul-lowered
-overflow_mul-lowered c =
+pub overflow_mul-remainder : goal.overflow_mul-remainder
+overflow_mul-remainder c =
     let rest : c.loop-quotient.remainder < c.args.divisor = (taken_exact c.args.scale.base c.requires.2 c.loop-quotient.invariant.0).1 in
     let b = c.args.scale.base in
     let most : c.loop-quotient.remainder ≤ 2 ^ 40 = omega (arith, rest, c.requires.3, c.requires.0.base_most) in
     omega (arith, mul-le-mul_right b most, c.requires.0.base_most)
+
+pub next_digit-next-requires : goal.next_digit-next-requires
+next_digit-next-requires c =
+    let rest : c.loop-quotient.remainder < c.args.divisor = (taken_exact c.args.scale.base c.requires.2 c.loop-quotient.invariant.0).1 in
+    (omega (arith, rest), mul-lt-mul_of_pos_right {k = c.args.scale.base} rest (omega (arith, c.requires.0.base_least)))
 
 pub loop-quotient-init : goal.loop-quotient-init
 loop-quotient-init c = (taken_none c.args.scale.base c.requires.2 c.args.places, λ i l. absurd (omega arith), bound_pos c.requires.0)
@@ -32,23 +41,15 @@ pub overflow_mul-quotient : goal.overflow_mul-quotient
 overflow_mul-quotient c =
     let rest : c.loop-quotient.remainder < c.args.divisor = (taken_exact c.args.scale.base c.requires.2 c.loop-quotient.invariant.0).1 in
     let next : let s = c.args.scale in c.loop-quotient.quotient * s.base + c.loop-quotient.remainder * s.base / c.args.divisor < s.bound = fits_next c.requires.0 rest (omega (arith, c.if-scale-quotient.false)) in
-    omega (arith, next, c.requires.0.bound_most)
-
-pub nonzero_div-quotient : goal.nonzero_div-quotient
-nonzero_div-quotient c =
-    let rest : c.loop-quotient.remainder < c.args.divisor = (taken_exact c.args.scale.base c.requires.2 c.loop-quotient.invariant.0).1 in
-    omega (arith, rest)
+    let digit_fits : c.loop-quotient.quotient * c.args.scale.base + c.next_digit-next.result.quotient < c.args.scale.bound = omega (arith, c.next_digit-next.ensures.0, next) in
+    omega (arith, digit_fits, c.requires.0.bound_most)
 
 pub overflow_add-quotient : goal.overflow_add-quotient
 overflow_add-quotient c =
     let rest : c.loop-quotient.remainder < c.args.divisor = (taken_exact c.args.scale.base c.requires.2 c.loop-quotient.invariant.0).1 in
     let next : let s = c.args.scale in c.loop-quotient.quotient * s.base + c.loop-quotient.remainder * s.base / c.args.divisor < s.bound = fits_next c.requires.0 rest (omega (arith, c.if-scale-quotient.false)) in
-    omega (arith, next, c.requires.0.bound_most)
-
-pub nonzero_rem-remainder : goal.nonzero_rem-remainder
-nonzero_rem-remainder c =
-    let rest : c.loop-quotient.remainder < c.args.divisor = (taken_exact c.args.scale.base c.requires.2 c.loop-quotient.invariant.0).1 in
-    omega (arith, rest)
+    let digit_fits : c.loop-quotient.quotient * c.args.scale.base + c.next_digit-next.result.quotient < c.args.scale.bound = omega (arith, c.next_digit-next.ensures.0, next) in
+    omega (arith, digit_fits, c.requires.0.bound_most)
 
 pub overflow_sub-place : goal.overflow_sub-place
 overflow_sub-place c = omega arith
