@@ -85,7 +85,7 @@ fn write_outward(
     let mut left = split;
     let mut right = split;
     let mut i = 0;
-    while i < count {
+    'walk: while i < count {
         let next = next_line(offsets, query, first, left, right, end);
         out[i] = next as u32;
         i += 1;

@@ -3,8 +3,8 @@ use Rattle.theory.proofs.Prelude.{◌-◌}
 use Rattle.saved_lines.proofs.Walks.{Written}
 use Rattle.saved_lines.proofs.reach.write_outward.Given as goal
 
-abbrev pub invariant-loop-i : goal.invariant-loop-i
-invariant-loop-i l = Written l.offsets l.query l.first l.end l.initial.out l.out l.left l.right l.i
+abbrev pub invariant-walk : goal.invariant-walk
+invariant-walk l = Written l.offsets l.query l.first l.end l.initial.out l.out l.left l.right l.i
 
-abbrev pub decreases-loop-i : goal.decreases-loop-i
-decreases-loop-i l = l.count - l.i
+abbrev pub decreases-walk : goal.decreases-walk
+decreases-walk l = l.count - l.i
