@@ -76,7 +76,7 @@ fn put_stretches<'a>(
     put_stretch(rt, first, second, 6, 2)
 }
 
-// What cannot be written is left out.
+// Where something cannot be written, the rest of its group of lines is left out.
 fn main(rt: HostRuntime) {
     // 1, 3, 2 and 8 from entry 1 on; an infinity at 0 and at 8, NaN at 5
     let first = [
