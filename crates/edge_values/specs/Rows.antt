@@ -62,21 +62,21 @@ infix 70 ◌is◌
 abbrev pub ◌is◌ : (call paper : Given Number) → Row
 call is paper = record { call = one call; paper = one paper }
 
-infix 70 ◌sums-to◌
-abbrev pub ◌sums-to◌ : (call paper : Given Rounded) → Row
-call sums-to paper = record { call = sum call; paper = sum paper }
+infix 70 ◌sums_to◌
+abbrev pub ◌sums_to◌ : (call paper : Given Rounded) → Row
+call sums_to paper = record { call = sum call; paper = sum paper }
 
-infix 70 ◌divides-to◌
-abbrev pub ◌divides-to◌ : (call paper : Given CountedQuotient) → Row
-call divides-to paper = record { call = quotient call; paper = quotient paper }
+infix 70 ◌divides_to◌
+abbrev pub ◌divides_to◌ : (call paper : Given CountedQuotient) → Row
+call divides_to paper = record { call = quotient call; paper = quotient paper }
 
 infix 70 ◌steps◌
 abbrev pub ◌steps◌ : (call paper : Given Steps) → Row
 call steps paper = record { call = three call; paper = three paper }
 
-infix 70 ◌off-by◌
-abbrev pub ◌off-by◌ : (call paper : ℕ) → Row
-call off-by paper = record { call = off call; paper = off paper }
+infix 70 ◌off_by◌
+abbrev pub ◌off_by◌ : (call paper : ℕ) → Row
+call off_by paper = record { call = off call; paper = off paper }
 
 -- ---- the table
 unfoldable pub rows : List Row
@@ -97,22 +97,22 @@ rows =
     -- D: 99,900,000 has no successor: 5
     ∷ successor_of D (plus 999 (pos 5)) is refused 5
     -- D: 99,900,000 + 99 toward zero is 99,900,000; up is 5
-    ∷ sum_answer D 2 (plus 999 (pos 5)) (plus 990 (negsuc 0)) sums-to rounded (plus 999 (pos 5)) Low
-    ∷ sum_answer D 3 (plus 999 (pos 5)) (plus 990 (negsuc 0)) sums-to refused 5
+    ∷ sum_answer D 2 (plus 999 (pos 5)) (plus 990 (negsuc 0)) sums_to rounded (plus 999 (pos 5)) Low
+    ∷ sum_answer D 3 (plus 999 (pos 5)) (plus 990 (negsuc 0)) sums_to refused 5
     -- D: 99,900,000 + 50,000 in direction 0 is a tie: 5. With 49,900 it is 99,900,000
-    ∷ sum_answer D 0 (plus 999 (pos 5)) (plus 500 (pos 2)) sums-to refused 5
-    ∷ sum_answer D 0 (plus 999 (pos 5)) (plus 499 (pos 2)) sums-to rounded (plus 999 (pos 5)) Low
+    ∷ sum_answer D 0 (plus 999 (pos 5)) (plus 500 (pos 2)) sums_to refused 5
+    ∷ sum_answer D 0 (plus 999 (pos 5)) (plus 499 (pos 2)) sums_to rounded (plus 999 (pos 5)) Low
     -- β = 2, p = 1: 2 + 1 in direction 0 is 4
-    ∷ sum_answer (nines 2 1) 0 (plus 1 (pos 1)) (plus 1 (pos 0)) sums-to rounded (plus 1 (pos 2)) High
+    ∷ sum_answer (nines 2 1) 0 (plus 1 (pos 1)) (plus 1 (pos 0)) sums_to rounded (plus 1 (pos 2)) High
     -- β = 3, p = 1: 1 ÷ 2 in direction 0 is 2/3, down 1/3
-    ∷ quotient_answer (nines 3 1) 0 (plus 1 (pos 0)) (plus 2 (pos 0)) divides-to counted (plus 2 (negsuc 0)) High 2
-    ∷ quotient_answer (nines 3 1) 4 (plus 1 (pos 0)) (plus 2 (pos 0)) divides-to counted (plus 1 (negsuc 0)) Low 2
+    ∷ quotient_answer (nines 3 1) 0 (plus 1 (pos 0)) (plus 2 (pos 0)) divides_to counted (plus 2 (negsuc 0)) High 2
+    ∷ quotient_answer (nines 3 1) 4 (plus 1 (pos 0)) (plus 2 (pos 0)) divides_to counted (plus 1 (negsuc 0)) Low 2
     -- β = 10, p = 3, Emin = -3, Emax = 3: figure 1 gives 1 for 1. With Emin = -2 it is refused, by 8
     ∷ ufp_toward_zero (threes (negsuc 2)) (plus 100 (negsuc 1)) is gives (plus 100 (negsuc 1))
     ∷ ufp_toward_zero (threes (negsuc 1)) (plus 100 (negsuc 1)) is refused 8
     -- β = 2, p = 3, all up: 4 and 1/16 give 5, 1, -7/8, off by 1/16, which is 32 units of 2 ^ -9; with 1/2: 5, 1, -1/2, not off
     ∷ fast_two_sum (nines 2 3) 3 3 3 (plus 4 (pos 0)) (plus 4 (negsuc 5)) steps gives (triple (plus 5 (pos 0)) (plus 4 (negsuc 1)) (minus 7 (negsuc 2)))
-    ∷ distance (nines 2 3) (plus 4 (pos 0)) (plus 4 (negsuc 5)) (plus 5 (pos 0)) (minus 7 (negsuc 2)) off-by 32
+    ∷ distance (nines 2 3) (plus 4 (pos 0)) (plus 4 (negsuc 5)) (plus 5 (pos 0)) (minus 7 (negsuc 2)) off_by 32
     ∷ fast_two_sum (nines 2 3) 3 3 3 (plus 4 (pos 0)) (plus 4 (negsuc 2)) steps gives (triple (plus 5 (pos 0)) (plus 4 (negsuc 1)) (minus 4 (negsuc 2)))
-    ∷ distance (nines 2 3) (plus 4 (pos 0)) (plus 4 (negsuc 2)) (plus 5 (pos 0)) (minus 4 (negsuc 2)) off-by 0
+    ∷ distance (nines 2 3) (plus 4 (pos 0)) (plus 4 (negsuc 2)) (plus 5 (pos 0)) (minus 4 (negsuc 2)) off_by 0
     ∷ []

@@ -8,18 +8,18 @@ use Rattle.decimal32.proofs.reading.coefficient_of.Goals as goal
 
 -- what the calls gave
 record Parts (n leading trailing : ℕ) : Type 0 where
-  leading-is : leading ≡ leading_digit (five_of n)
-  leading-most : leading < 10
-  trailing-is : trailing ≡ declet_value (first_declet n) * 10 ^ 3 + declet_value (second_declet n)
-  trailing-most : trailing < 10 ^ 6
+  leading_is : leading ≡ leading_digit (five_of n)
+  leading_most : leading < 10
+  trailing_is : trailing ≡ declet_value (first_declet n) * 10 ^ 3 + declet_value (second_declet n)
+  trailing_most : trailing < 10 ^ 6
 
 parts : (n : ℕ) {l t : ℕ} → l ≡ leading_digit (five_of n) → t ≡ declet_value (first_declet n) * 10 ^ 3 + declet_value (second_declet n) → Parts n l t
 parts n l t =
     record {
-      leading-is = l;
-      leading-most = rw l (leading_small (five_of n));
-      trailing-is = t;
-      trailing-most = omega (arith, t, value_small {n = first_declet n} (omega arith), value_small {n = second_declet n} (omega arith));
+      leading_is = l;
+      leading_most = rw l (leading_small (five_of n));
+      trailing_is = t;
+      trailing_most = omega (arith, t, value_small {n = first_declet n} (omega arith), value_small {n = second_declet n} (omega arith));
     }
 
 pub overflow_mul-result : goal.overflow_mul-result

@@ -9,10 +9,10 @@ use Rattle.decimal32.proofs.writing.pattern_at.Goals as goal
 
 -- what the calls gave
 record Parts (s : Bool) (m k sign five first second : ℕ) : Type 0 where
-  sign-is : sign ≡ sign_weight s
+  sign_is : sign ≡ sign_weight s
   sign_high : sign ≤ 2 ^ 31
-  five-is : five ≡ five_for (k / 64) (m / 1000000)
-  five-most : five < 30
+  five_is : five ≡ five_for (k / 64) (m / 1000000)
+  five_most : five < 30
   first_is : first ≡ declet_for (m / 1000 % 1000)
   first_most : first < 1024
   second_is : second ≡ declet_for (m % 1000)
@@ -22,10 +22,10 @@ parts : (s : Bool) (m k : ℕ) {v f a b : ℕ} → m < 10 ^ 7 → k ≤ 191 → 
     → a ≡ declet_for (m / 1000 % 1000) → b ≡ declet_for (m % 1000) → Parts s m k v f a b
 parts s m k hm hk v f a b =
     record {
-      sign-is = v;
+      sign_is = v;
       sign_high = rw v (sign_most 31 s);
-      five-is = f;
-      five-most = rw f (five_fits {high = k / 64} {digit = m / 1000000} (omega arith) (omega arith));
+      five_is = f;
+      five_most = rw f (five_fits {high = k / 64} {digit = m / 1000000} (omega arith) (omega arith));
       first_is = a;
       first_most = rw a (declet_fits {n = m / 1000 % 1000} (omega arith));
       second_is = b;

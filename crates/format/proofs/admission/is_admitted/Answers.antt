@@ -19,9 +19,9 @@ returns-then-not-fits c = refuted (λ h. never (sym (le-leb _ _ (admits _ h).pow
 
 pub returns : goal.returns
 returns c =
-    let emin-fits : SFits w32 c.args.format.emin = search rules in
-    let emax-fits : SFits w32 c.args.format.emax = search rules in
-    (c.exponents_admitted.ensures ∙ rw (back emin-fits, back emax-fits))
+    let emin_fits : SFits w32 c.args.format.emin = search rules in
+    let emax_fits : SFits w32 c.args.format.emax = search rules in
+    (c.exponents_admitted.ensures ∙ rw (back emin_fits, back emax_fits))
     ∙ last c.args.format c.if-base-lt2.false c.if-base-gt256.false c.if-digits-lt1.false c.if-digits-gt63.false (sym c.fits.ensures ∙ c.if-not-fits.false)
 
 pub returns-then-base-lt2 : goal.returns-then-base-lt2

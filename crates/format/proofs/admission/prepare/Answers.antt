@@ -9,9 +9,9 @@ use Rattle.format.proofs.Formats.{Admitted, admits, exponents_made, bound_least,
 use Rattle.format.proofs.admission.prepare.Goals as goal
 
 -- what was worked out is what is to be prepared
-worked-out : (f : Format) → Admitted f → (least highest : ℕ) → least ≡ f.base ^ (f.digits - 1) → highest ≡ highest_place f
+worked_out : (f : Format) → Admitted f → (least highest : ℕ) → least ≡ f.base ^ (f.digits - 1) → highest ≡ highest_place f
     → record { format = f; scale = record { base = f.base; digits = f.digits; least = least; bound = least * f.base }; highest = highest } ≡ prepared_of f
-worked-out f a least highest e h = rw (e, h, bound_least a)
+worked_out f a least highest e h = rw (e, h, bound_least a)
 
 pub returns-then-not-is_admitted : goal.returns-then-not-is_admitted
 unfolding preparation
@@ -29,20 +29,20 @@ overflow_mul-bound c =
 
 pub distance-requires : goal.distance-requires
 distance-requires c =
-    let emin-fits : SFits w32 c.args.format.emin = search rules in
-    let emax-fits : SFits w32 c.args.format.emax = search rules in
+    let emin_fits : SFits w32 c.args.format.emin = search rules in
+    let emax_fits : SFits w32 c.args.format.emax = search rules in
     let passed : Admitted c.args.format = admits _ (sym c.is_admitted.ensures ∙ c.if-not-is_admitted.false) in
-    rw (back emin-fits, back emax-fits) (exponents_made passed.range)
+    rw (back emin_fits, back emax_fits) (exponents_made passed.range)
 
 pub returns : goal.returns
 unfolding preparation
 returns c =
-    let emin-fits : SFits w32 c.args.format.emin = search rules in
-    let emax-fits : SFits w32 c.args.format.emax = search rules in
+    let emin_fits : SFits w32 c.args.format.emin = search rules in
+    let emax_fits : SFits w32 c.args.format.emax = search rules in
     let passed : Admitted c.args.format = admits _ (sym c.is_admitted.ensures ∙ c.if-not-is_admitted.false) in
     ap Ready
-    (worked-out c.args.format passed _ _ c.power-least.ensures
-    (c.distance.ensures ∙ rw (back emin-fits, back emax-fits)))
+    (worked_out c.args.format passed _ _ c.power-least.ensures
+    (c.distance.ensures ∙ rw (back emin_fits, back emax_fits)))
     ∙ sym (unless_passed _ _ (sym c.is_admitted.ensures ∙ c.if-not-is_admitted.false))
 
 pub overflow_sub-digits : goal.overflow_sub-digits

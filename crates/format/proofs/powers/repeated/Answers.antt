@@ -27,14 +27,6 @@ loop-rest-init c = way_first c.args.base c.args.k c.requires.0
 pub loop-rest-smaller : goal.loop-rest-smaller
 loop-rest-smaller c = omega (arith, c.loop-rest-test.true)
 
-pub overflow_mul-result-2 : goal.overflow_mul-result-2
-overflow_mul-result-2 c =
-    let ended : let l = c.loop-rest in let s = c.args in l.result * c.if-rest-eq1-2.last ≡ s.base ^ s.k = let l = c.loop-rest in
-    let s = c.args in
-    let at : (n : ℕ) → Type 0 = λ n. Way (s.base ^ s.k) l.result l.square n in
-    elim c.if-rest-eq1-2.branch [ then-rest-eq1-2 w ↦ ap (λ (f : ℕ). l.result * f) w.last-is ∙ way_one (subst at w.if-rest-eq1-2.true l.invariant) | else-rest-eq1-2 w ↦ ap (λ (f : ℕ). l.result * f) w.last-is ∙ way_none (subst at (omega (arith, c.loop-rest-test.false, w.if-rest-eq1-2.false)) l.invariant) ] in
-    omega (arith, ended, c.requires.2)
-
 pub returns : goal.returns
 returns c =
     let ended : let l = c.loop-rest in let s = c.args in l.result * c.if-rest-eq1-2.last ≡ s.base ^ s.k = let l = c.loop-rest in
@@ -42,3 +34,11 @@ returns c =
     let at : (n : ℕ) → Type 0 = λ n. Way (s.base ^ s.k) l.result l.square n in
     elim c.if-rest-eq1-2.branch [ then-rest-eq1-2 w ↦ ap (λ (f : ℕ). l.result * f) w.last-is ∙ way_one (subst at w.if-rest-eq1-2.true l.invariant) | else-rest-eq1-2 w ↦ ap (λ (f : ℕ). l.result * f) w.last-is ∙ way_none (subst at (omega (arith, c.loop-rest-test.false, w.if-rest-eq1-2.false)) l.invariant) ] in
     ended
+
+pub overflow_mul-result-2 : goal.overflow_mul-result-2
+overflow_mul-result-2 c =
+    let ended : let l = c.loop-rest in let s = c.args in l.result * c.if-rest-eq1-2.last ≡ s.base ^ s.k = let l = c.loop-rest in
+    let s = c.args in
+    let at : (n : ℕ) → Type 0 = λ n. Way (s.base ^ s.k) l.result l.square n in
+    elim c.if-rest-eq1-2.branch [ then-rest-eq1-2 w ↦ ap (λ (f : ℕ). l.result * f) w.last-is ∙ way_one (subst at w.if-rest-eq1-2.true l.invariant) | else-rest-eq1-2 w ↦ ap (λ (f : ℕ). l.result * f) w.last-is ∙ way_none (subst at (omega (arith, c.loop-rest-test.false, w.if-rest-eq1-2.false)) l.invariant) ] in
+    omega (arith, ended, c.requires.2)

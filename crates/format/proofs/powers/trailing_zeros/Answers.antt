@@ -15,10 +15,10 @@ doubled {n} {h} {z} e d =
       no_more = λ m. d.no_more (record { times = m.times; is = omega (arith, e, m.is, ap (λ (x : ℕ). m.times * x) (pow-suc 2 (suc z))) });
     }
 
-bit-zeros : (k n : ℕ) → 1 ≤ n → n < 2 ^ k → Ends 2 n (count_trailing_zeros k n)
+bit_zeros : (k n : ℕ) → 1 ≤ n → n < 2 ^ k → Ends 2 n (count_trailing_zeros k n)
 unfolding count_trailing_zeros
-bit-zeros zero n some l = absurd (omega (arith, pow-zero 2))
-bit-zeros (suc k) n some l = by (n % 2) refl (bit-zeros k (n / 2))
+bit_zeros zero n some l = absurd (omega (arith, pow-zero 2))
+bit_zeros (suc k) n some l = by (n % 2) refl (bit_zeros k (n / 2))
   where
     by : (d : ℕ) → n % 2 ≡ d → (1 ≤ n / 2 → n / 2 < 2 ^ k → Ends 2 (n / 2) (count_trailing_zeros k (n / 2))) → Ends 2 n (under d (count_trailing_zeros k (n / 2)))
     by zero e next = doubled (omega arith) (next (omega arith) (omega (arith, pow-suc 2 k)))
@@ -27,4 +27,4 @@ bit-zeros (suc k) n some l = by (n % 2) refl (bit-zeros k (n / 2))
 pub returns-then-base-eq2 : goal.returns-then-base-eq2
 returns-then-base-eq2 c =
     let two : 2 ≤ 2 = omega arith in
-    sym (ends_zeros two c.requires.1 (bit-zeros 64 c.args.m c.requires.1 (search rules))) ∙ ap (λ (b : ℕ). zeros b c.args.m) (sym c.if-base-eq2.true)
+    sym (ends_zeros two c.requires.1 (bit_zeros 64 c.args.m c.requires.1 (search rules))) ∙ ap (λ (b : ℕ). zeros b c.args.m) (sym c.if-base-eq2.true)

@@ -18,11 +18,11 @@ returns-then-a-b c =
 
 -- both significands with all their digits
 record Brought (s : Scale) (a b m n down low : ℕ) : Type 0 where
-  first-shift : ℕ
-  second-shift : ℕ
-  first : Shifted s a m first-shift
-  second : Shifted s b n second-shift
-  low_is : low ≡ down + first-shift + second-shift
+  first_shift : ℕ
+  second_shift : ℕ
+  first : Shifted s a m first_shift
+  second : Shifted s b n second_shift
+  low_is : low ≡ down + first_shift + second_shift
 
 brought_cut : {limit : ℕ} {s : Scale} → ScaledWithin limit s → {a b m n down low : ℕ} → Brought s a b m n down low → (up : ℕ) {c : Cut}
     → c ≡ cut_of s.base s.digits (m * n * s.base ^ up) (s.base ^ low) → c ≡ cut_of s.base s.digits (a * b * s.base ^ up) (s.base ^ down)
@@ -36,8 +36,8 @@ brought c =
       | then-a-scale+else-a-b w ↦
           let some = both_some s.a s.b w.if-a-b.false in
           record {
-            first-shift = _;
-            second-shift = _;
+            first_shift = _;
+            second_shift = _;
             first = shifted_at w.m-is (extended_shifted p.0 some.0 w.normalise-first.ensures);
             second = shifted_at w.n-is (extended_shifted p.0 some.1 w.normalise-second.ensures);
             low_is = w.low-is;
@@ -45,8 +45,8 @@ brought c =
       | else-a-scale w ↦
           let all = neither_lacks s.a s.b s.scale.least w.if-a-scale.false in
           record {
-            first-shift = 0;
-            second-shift = 0;
+            first_shift = 0;
+            second_shift = 0;
             first = shifted_at w.m-is (shifted_none p.0 all.0 p.1);
             second = shifted_at w.n-is (shifted_none p.0 all.1 p.2);
             low_is = omega (arith, w.low-is);

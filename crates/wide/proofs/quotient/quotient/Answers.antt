@@ -13,12 +13,12 @@ use Rattle.wide.proofs.quotient.quotient.Goals.{Joined-m-scale, After-quotient_c
 
 -- both significands with all their digits: the shift of each goes to the other side
 record Brought (s : Scale) (m n a b up down high low : ℕ) : Type 0 where
-  first-shift : ℕ
-  second-shift : ℕ
-  first : Shifted s m a first-shift
-  second : Shifted s n b second-shift
-  high_is : high ≡ up + second-shift
-  low_is : low ≡ down + first-shift
+  first_shift : ℕ
+  second_shift : ℕ
+  first : Shifted s m a first_shift
+  second : Shifted s n b second_shift
+  high_is : high ≡ up + second_shift
+  low_is : low ≡ down + first_shift
 
 module _ {limit : ℕ} {s : Scale} (h : ScaledWithin limit s) {m n a b up down high low : ℕ} (some : 1 ≤ n) (t : Brought s m n a b up down high low) where
   exact_at : {c : Cut} → c ≡ cut_of s.base s.digits (a * s.base ^ high) (b * s.base ^ low) → c ≡ cut_of s.base s.digits (m * s.base ^ up) (n * s.base ^ down)
@@ -47,8 +47,8 @@ brought c =
     elim c.if-m-scale.branch [
       | then-m-scale w ↦
           record {
-            first-shift = _;
-            second-shift = _;
+            first_shift = _;
+            second_shift = _;
             first = shifted_at w.a-is (extended_shifted p.0 (omega (arith, c.if-m-eq0.false)) w.normalise-first.ensures);
             second = shifted_at w.b-is (extended_shifted p.0 p.2 w.normalise-second.ensures);
             high_is = w.high-is;
@@ -57,8 +57,8 @@ brought c =
       | else-m-scale w ↦
           let all = neither_lacks s.m s.n s.scale.least w.if-m-scale.false in
           record {
-            first-shift = 0;
-            second-shift = 0;
+            first_shift = 0;
+            second_shift = 0;
             first = shifted_at w.a-is (shifted_none p.0 all.0 p.1);
             second = shifted_at w.b-is (shifted_none p.0 all.1 p.3);
             high_is = omega (arith, w.high-is);

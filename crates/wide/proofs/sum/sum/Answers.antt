@@ -9,8 +9,8 @@ use Rattle.wide.proofs.sum.sum.Goals.{Joined-x-y, then-x-y, else-x-y}
 
 -- the two numbers in the order of their places
 record Ordered (s : Scale) (x y high low : Wide) : Type 0 where
-  high-operand : Bounded s high
-  low-operand : Bounded s low
+  high_operand : Bounded s high
+  low_operand : Bounded s low
   order : low.place ≤ high.place
   sum : value_of s.base high +ℤ value_of s.base low ≡ value_of s.base x +ℤ value_of s.base y
 
@@ -23,9 +23,9 @@ ordered c =
     let v = value_of c.args.scale.base in
     elim c.if-x-y.branch [
       | then-x-y w ↦ ordered_at w.high-is w.low-is
-          (record { high-operand = p.2; low-operand = p.1; order = omega (arith, w.if-x-y.true); sum = +ℤ_comm (v c.args.y) (v c.args.x) })
+          (record { high_operand = p.2; low_operand = p.1; order = omega (arith, w.if-x-y.true); sum = +ℤ_comm (v c.args.y) (v c.args.x) })
       | else-x-y w ↦ ordered_at w.high-is w.low-is
-          (record { high-operand = p.1; low-operand = p.2; order = omega (arith, w.if-x-y.false); sum = refl })
+          (record { high_operand = p.1; low_operand = p.2; order = omega (arith, w.if-x-y.false); sum = refl })
     ]
 
 -- the higher one, from the lower one's place and the distance
@@ -35,7 +35,7 @@ raised h l e = ap (wide h.negative h.significand) (omega (arith, e))
 pub aligned_sum-requires : goal.aligned_sum-requires
 aligned_sum-requires c =
     let o = ordered c.before.before in
-    (c.requires.0, rw (raised c.if-x-y.high c.if-x-y.low o.order) o.high-operand, o.low-operand)
+    (c.requires.0, rw (raised c.if-x-y.high c.if-x-y.low o.order) o.high_operand, o.low_operand)
 
 pub returns : goal.returns
 returns c =
