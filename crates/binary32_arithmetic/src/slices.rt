@@ -105,8 +105,8 @@ fn first_refused(direction: Direction, a: &[u32], b: &[u32]) -> Examined
 
 // The second pass: how many entries are not exact.
 fn write_sums(direction: Direction, a: &[u32], b: &[u32], out: &mut [u32]) -> usize
-    requires a_len { length a.now ≡ length b.now }
-    requires a_len_2 { length a.now ≡ length out.old }
+    requires b_length { length a.now ≡ length b.now }
+    requires out_length { length a.now ≡ length out.old }
     ensures count { result ≡ inexact_entries direction a.now b.now }
     ensures written { out.new ≡ sums direction a.now b.now }
 {

@@ -36,7 +36,7 @@ fn first_too_large(direction: Direction, strips: &[u32]) -> usize
 // The last x, and each y into `rests`, where no strip makes the sum too large.
 fn write_rests(direction: Direction, strips: &[u32], rests: &mut [u32]) -> u32
     requires summable { Summable strips.now }
-    requires rests_value { (suc (length rests.old) ≡ length strips.now) × (length (boundary_steps direction strips.now) ≡ length rests.old) }
+    requires rests_length { (suc (length rests.old) ≡ length strips.now) × (length (boundary_steps direction strips.now) ≡ length rests.old) }
     ensures sum { result ≡ last_x (first_of strips.now) (boundary_steps direction strips.now) }
     ensures written { rests.new ≡ rests_of (boundary_steps direction strips.now) }
 {

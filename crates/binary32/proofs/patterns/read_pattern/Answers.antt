@@ -1,6 +1,5 @@
 -- `binary32::patterns::read_pattern` meets its contract.
 use Rattle.theory.proofs.Prelude.{◌∙◌, ap, sym}
-use Rattle.theory.proofs.Tests.{granted}
 use Rattle.format.specs.Given.{gives}
 use Rattle.binary32.proofs.Fields.{endless_field}
 use Rattle.binary32.proofs.RoundTrips.{read_made, read_refused}

@@ -43,8 +43,8 @@ loop-done-preserved c =
       search rules,
       search rules,
       fewer sum _ l.inexact i l.invariant.2 e c.inexact_count-inexact.ensures,
-      omega (arith, l.invariant.3, n, inexact_step s.direction i s.a.now s.b.now (omega arith) c.requires.a_len),
-      written_step s.direction i c.sum_entry-entry.result.pattern s.a.now s.b.now l.out (omega arith) c.requires.a_len (omega arith) v ∙ l.invariant.4,
+      omega (arith, l.invariant.3, n, inexact_step s.direction i s.a.now s.b.now (omega arith) c.requires.b_length),
+      written_step s.direction i c.sum_entry-entry.result.pattern s.a.now s.b.now l.out (omega arith) c.requires.b_length (omega arith) v ∙ l.invariant.4,
     )
 
 pub returns : goal.returns

@@ -1,6 +1,5 @@
 -- `binary64::patterns::read_binary64` meets its contract.
 use Rattle.theory.proofs.Prelude.{◌∙◌, ap, sym}
-use Rattle.theory.proofs.Tests.{granted}
 use Rattle.format.specs.Given.{gives}
 use Rattle.binary_patterns.proofs.Fields.{endless_field}
 use Rattle.binary_patterns.proofs.RoundTrips.{read_made, read_refused}

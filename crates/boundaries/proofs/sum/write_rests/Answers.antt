@@ -17,7 +17,7 @@ loop-done-init c =
 -- ---- a step
 pub add_strip-requires : goal.add_strip-requires
 add_strip-requires c =
-    (c.loop-done.invariant.2, all_finite c.args.strips.now c.requires.summable.finite _ (omega (arith, c.requires.rests_value.0, c.loop-done.invariant.1, c.loop-done-test.true)))
+    (c.loop-done.invariant.2, all_finite c.args.strips.now c.requires.summable.finite _ (omega (arith, c.requires.rests_length.0, c.loop-done.invariant.1, c.loop-done-test.true)))
 
 -- no step is too large
 never_large : (d : Direction) (x done : ℕ) (strips rests : List ℕ) → done < length rests → suc (length rests) ≡ length strips
@@ -29,8 +29,8 @@ pub returns-in_default : goal.returns-in_default
 returns-in_default c =
     let l = c.loop-done in
     absurd
-    (never_large c.args.direction l.x l.done c.args.strips.now l.rests (omega (arith, l.invariant.1, c.loop-done-test.true)) (omega (arith, c.requires.rests_value.0, l.invariant.1))
-    (c.requires.rests_value.1 ∙ sym l.invariant.1) l.invariant.3 (sym c.add_strip.ensures ∙ c.in_default.is))
+    (never_large c.args.direction l.x l.done c.args.strips.now l.rests (omega (arith, l.invariant.1, c.loop-done-test.true)) (omega (arith, c.requires.rests_length.0, l.invariant.1))
+    (c.requires.rests_length.1 ∙ sym l.invariant.1) l.invariant.3 (sym c.add_strip.ensures ∙ c.in_default.is))
 
 pub loop-done-preserved : goal.loop-done-preserved
 loop-done-preserved c =
@@ -38,7 +38,7 @@ loop-done-preserved c =
     let strips = c.args.strips.now in
     let l = c.loop-done in
     let inside : l.done < length l.rests = omega (arith, l.invariant.1, c.loop-done-test.true) in
-    let lengths : suc (length l.rests) ≡ length strips = omega (arith, c.requires.rests_value.0, l.invariant.1) in
+    let lengths : suc (length l.rests) ≡ length strips = omega (arith, c.requires.rests_length.0, l.invariant.1) in
     let next : l.done + 1 < length strips = omega (arith, inside, lengths) in
     let e = sym c.add_strip.ensures ∙ c.in-Added.is in (
       omega (arith, inside, l.invariant.1),
@@ -50,7 +50,7 @@ loop-done-preserved c =
 
 pub returns : goal.returns
 returns c =
-    let lengths : suc (length c.loop-done.rests) ≡ length c.args.strips.now = omega (arith, c.requires.rests_value.0, c.loop-done.invariant.1) in
+    let lengths : suc (length c.loop-done.rests) ≡ length c.args.strips.now = omega (arith, c.requires.rests_length.0, c.loop-done.invariant.1) in
     let end : c.loop-done.done ≡ length c.loop-done.rests = omega arith in
     record {
       sum = sym (last_ends c.args.direction c.loop-done.x (c.loop-done.done + 1) c.args.strips.now (omega (arith, end, lengths))) ∙ c.loop-done.invariant.4;

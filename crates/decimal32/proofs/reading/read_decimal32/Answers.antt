@@ -1,6 +1,6 @@
 -- `decimal32::reading::read_decimal32` meets its contract.
 use Rattle.theory.proofs.Prelude.{◌∙◌, ap, sym}
-use Rattle.theory.proofs.Tests.{granted, unless_passed, unless_failed}
+use Rattle.theory.proofs.Tests.{unless_passed, unless_failed}
 use Rattle.format.specs.Given.{gives}
 use Rattle.decimal32.specs.Patterns.{decimal32_read}
 use Rattle.decimal32.proofs.reading.read_decimal32.Goals as goal

@@ -1,7 +1,7 @@
 -- `fast_two_sum::check::is_triple` meets its contract.
 use Rattle.theory.proofs.Prelude.{◌∙◌, sym, rules}
 use Rattle.theory.specs.Tests.{◌and◌}
-use Rattle.theory.proofs.Tests.{never, granted, and_left, and_right, refuted}
+use Rattle.theory.proofs.Tests.{never, and_left, and_right, refuted}
 use Rattle.fast_two_sum.specs.Checks.{is_triple}
 use Rattle.fast_two_sum.proofs.check.is_triple.Goals as goal
 

@@ -1,7 +1,7 @@
 -- `format::admission::is_admitted` meets its contract: a test that fails refutes what an admitted format has, and the last one decides.
 use Rattle.theory.proofs.Prelude.{◌≤◌, ◌^◌, true, ◌∙◌, ◌≡◌, sym, arith, leb, w32, SFits, rules, le-leb}
 use Rattle.theory.specs.Tests.{◌and◌}
-use Rattle.theory.proofs.Tests.{never, refuted, denied, granted}
+use Rattle.theory.proofs.Tests.{never, refuted}
 use Rattle.format.specs.declared.Format.{Format}
 use Rattle.format.specs.Formats.{greatest_power, exponents_admitted, admitted}
 use Rattle.format.proofs.Signed.{back}

@@ -1,6 +1,6 @@
 -- `format::admission::prepare` meets its contract.
 use Rattle.theory.proofs.Prelude.{ℕ, ◌^◌, ◌*◌, ◌-◌, ◌∙◌, ap, ◌≡◌, sym, le_trans, arith, w32, SFits, rules}
-use Rattle.theory.proofs.Tests.{granted, denied, unless_passed, unless_failed}
+use Rattle.theory.proofs.Tests.{unless_passed, unless_failed}
 use Rattle.format.specs.declared.Format.{Format}
 use Rattle.format.specs.declared.Preparation.TheVariants.{Ready}
 use Rattle.format.specs.Formats.{preparation, highest_place, prepared_of}

@@ -1,6 +1,5 @@
 -- `lines::printing::put_pattern` meets its contract.
 use Rattle.theory.proofs.Prelude.{true, ◌∷◌, ◌++◌, ◌∙◌, ap, ◌≡◌, sym, arith}
-use Rattle.theory.proofs.Tests.{denied, granted}
 use Rattle.format.specs.Given.{Given}
 use Rattle.number.specs.declared.Number.{Number}
 use Rattle.binary32.specs.Places.{PlacesGiven}

@@ -1,6 +1,5 @@
-use Rattle.theory.proofs.Prelude.{sym, ◌∙◌}
 -- `number::checks::with_direction` meets its contract.
-use Rattle.theory.proofs.Tests.{denied, granted}
+use Rattle.theory.proofs.Prelude.{sym, ◌∙◌}
 use Rattle.number.proofs.CheckLaws.{further_stands, further_fails, further_passes}
 use Rattle.number.proofs.checks.with_direction.Goals as goal
 
