@@ -22,5 +22,5 @@ pub mod ConversionExamples
 -- how many digits of a quotient are worked out
 pub mod DigitLaws
 pub mod Prelude
+
 -- the checks of a public call
-pub mod Entries

@@ -14,7 +14,7 @@ pub use Rattle.format.proofs.Formats.{admitted_made, exponents_made, distances}
 pub use Rattle.format.proofs.GivenLaws.{gives_same, gives_not_refused}
 pub use Rattle.number.specs.declared.Number.{Number}
 unfoldable pub use Rattle.number.proofs.Prelude.{admitted, member, magnitude, value, greatest, number, delivered, checked, entered}
-pub use Rattle.number.proofs.Prelude.{Format, Prepared, Given, gives, refused, highest_place, back, apart, Admitted, admits, positional, above_zero, below_zero, place_of, number_given, Usable, Operand, Operands, Member, members, member_made, known, emin_admitted, highest_most, member_canonical, member_highest, member_greatest, number_of}
+pub use Rattle.number.proofs.Prelude.{Format, Prepared, Given, gives, refused, highest_place, back, apart, Admitted, admits, positional, above_zero, below_zero, place_of, given, Usable, Operand, Operands, Member, members, member_made, known, emin_admitted, highest_most, member_canonical, member_highest, member_greatest, number_of}
 pub use Rattle.number.specs.Checks.{Checks, not_admitted, no_direction, not_member, all_passed}
 pub use Rattle.number.proofs.Values.{number_member, number_value, number_same, delivered_same}
 pub use Rattle.number.proofs.CheckLaws.{checked_passed, checks_end}

@@ -8,21 +8,13 @@ use Rattle.theory.specs.Marks.{mark}
 use Rattle.theory.specs.Signed.{signed}
 use Rattle.format.specs.declared.Format.{Format}
 use Rattle.format.specs.Directions.{direction}
-use Rattle.format.specs.Given.{Given, gives, refused, ◌then◌}
-use Rattle.format.specs.Refusals.{refusal_number}
+use Rattle.format.specs.Given.{Given, gives, ◌then◌}
 use Rattle.number.specs.declared.Number.{Number}
 use Rattle.number.specs.Exponents.{above_zero, below_zero}
 use Rattle.number.specs.Numbers.{magnitude, value}
 use Rattle.number.specs.Checks.{checked}
 use Rattle.arithmetic.specs.declared.Rounded.{Rounded}
-use Rattle.arithmetic.specs.declared.RoundedAnswer.{RoundedAnswer}
-use Rattle.arithmetic.specs.declared.RoundedAnswer.TheVariants.{Value, Refused}
 use Rattle.arithmetic.specs.Operations.{rounded_sum, rounded_difference, rounded_product, rounded_quotient, rounded_fraction, rounded_record}
-
--- ---- the answer
-abbrev pub rounded_given : RoundedAnswer → Given Rounded
-rounded_given (Value x) = gives x
-rounded_given (Refused why) = refused (refusal_number why)
 
 -- the number without its mark
 abbrev pub without_mark : Given Rounded → Given Number

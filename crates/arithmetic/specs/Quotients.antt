@@ -6,20 +6,12 @@ use Rattle.theory.specs.Tests.{◌or◌}
 use Rattle.theory.specs.QuotientDigits.{digits_taken, lacking, brought}
 use Rattle.format.specs.declared.Format.{Format}
 use Rattle.format.specs.Directions.{direction}
-use Rattle.format.specs.Given.{Given, gives, refused, ◌then◌}
-use Rattle.format.specs.Refusals.{refusal_number}
+use Rattle.format.specs.Given.{Given, gives, ◌then◌}
 use Rattle.number.specs.declared.Number.{Number}
 use Rattle.number.specs.Checks.{checked}
 use Rattle.arithmetic.specs.declared.Rounded.{Rounded}
 use Rattle.arithmetic.specs.declared.CountedQuotient.{CountedQuotient}
-use Rattle.arithmetic.specs.declared.QuotientAnswer.{QuotientAnswer}
-use Rattle.arithmetic.specs.declared.QuotientAnswer.TheVariants.{Value, Refused}
 use Rattle.arithmetic.specs.Marked.{marked_quotient}
-
--- ---- the answer
-abbrev pub quotient_given : QuotientAnswer → Given CountedQuotient
-quotient_given (Value x) = gives x
-quotient_given (Refused why) = refused (refusal_number why)
 
 -- the number and its mark
 abbrev pub without_digits : Given CountedQuotient → Given Rounded

@@ -1,17 +1,16 @@
 // A number of any form taken into a format: what a parser read, a whole number, a number of another format to the same base.
 ghost use Rattle.std.specs.Prelude.{◌≡◌};
+ghost use Rattle.format.specs.Given.{given};
 ghost use Rattle.number.specs.Checks.{Usable};
 ghost use Rattle.arithmetic.specs.Operands.{record_powers};
-ghost use Rattle.arithmetic.specs.Marked.{rounded_given, marked_record, conversion_answer};
+ghost use Rattle.arithmetic.specs.Marked.{marked_record, conversion_answer};
 
-use crate::RoundedAnswer;
+use crate::Rounded;
 use crate::fraction::size;
 use crate::operands::{Powers, deliver_wide};
 use format::admission::prepare;
-use format::directions::direction_of;
-use format::{Format, Preparation, Prepared, Refusal};
+use format::{Format, Prepared, Refusal};
 use number::Number;
-use number::checks::with_direction;
 use number::exponents::{above_zero, below_zero};
 use theory::Direction;
 
@@ -37,14 +36,14 @@ fn record_powers(prepared: Prepared, e: i32) -> Powers
 }
 
 // x, in a format that was prepared. Refuses 5: more than 4000 places above emin is beyond every format.
-fn convert_record(prepared: Prepared, direction: Direction, x: Number) -> RoundedAnswer
+fn convert_record(prepared: Prepared, direction: Direction, x: Number) -> Result<Rounded, Refusal>
     requires { Usable prepared }
-    ensures { rounded_given result ≡ marked_record prepared.format direction x }
+    ensures { given result ≡ marked_record prepared.format direction x }
 {
     let w = record_powers(prepared, x.exponent);
     let m = x.significand;
     if (m != 0) & (4000 < w.up) {
-        return RoundedAnswer::Refused(Refusal::TooLarge);
+        return Err(Refusal::TooLarge);
     }
     let scale = prepared.scale;
     let rounding = wide::conversion::conversion(scale, direction, x.negative, m, w.up, w.down);
@@ -52,11 +51,10 @@ fn convert_record(prepared: Prepared, direction: Direction, x: Number) -> Rounde
 }
 
 // x, whose significand and exponent may be any, rounded into the format. Refuses 1, 2, 5.
-pub fn convert(format: Format, direction: u32, x: Number) -> RoundedAnswer
-    ensures { rounded_given result ≡ conversion_answer format direction x }
+pub fn convert(format: Format, direction: u32, x: Number) -> Result<Rounded, Refusal>
+    ensures { given result ≡ conversion_answer format direction x }
 {
-    match with_direction(prepare(format), direction) {
-        Preparation::Refused(why) => RoundedAnswer::Refused(why),
-        Preparation::Ready(prepared) => convert_record(prepared, direction_of(direction), x),
-    }
+    let prepared = prepare(format)?;
+    let direction = Direction::try_from(direction)?;
+    convert_record(prepared, direction, x)
 }

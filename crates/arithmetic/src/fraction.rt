@@ -1,30 +1,29 @@
 // A fraction of whole numbers.
 ghost use Rattle.std.specs.Prelude.{◌≡◌, nat_abs};
 ghost use Rattle.theory.specs.Signed.{is_negative};
+ghost use Rattle.format.specs.Given.{given};
 ghost use Rattle.number.specs.Checks.{Usable};
-ghost use Rattle.arithmetic.specs.Marked.{rounded_given, marked_fraction, fraction_answer};
+ghost use Rattle.arithmetic.specs.Marked.{marked_fraction, fraction_answer};
 
-use crate::RoundedAnswer;
+use crate::Rounded;
 use crate::operands::deliver_wide;
 use format::admission::prepare;
-use format::directions::direction_of;
-use format::{Format, Preparation, Prepared, Refusal};
-use number::checks::with_direction;
+use format::{Format, Prepared, Refusal};
 use number::exponents::{above_zero, below_zero};
 use theory::Direction;
 
-// |n|, which is 2^31 for the least n: n + 1 has a negation of 32 bits.
+// |n|, which is 2^31 for the least n.
 pub fn size(n: i32) -> u32
     ensures { result ≡ nat_abs n }
 {
-    if n < 0 { -(n + 1) as u32 + 1 } else { n as u32 }
+    n.unsigned_abs()
 }
 
 // Is n below zero?
 fn is_below_zero(n: i32) -> bool
     ensures { result ≡ is_negative n }
 {
-    n < 0
+    n.is_negative()
 }
 
 // numerator / denominator, in a format that was prepared. Refuses 4, 5.
@@ -33,12 +32,12 @@ fn divide_whole(
     direction: Direction,
     numerator: i32,
     denominator: u32,
-) -> RoundedAnswer
+) -> Result<Rounded, Refusal>
     requires { Usable prepared }
-    ensures { rounded_given result ≡ marked_fraction prepared.format direction numerator denominator }
+    ensures { given result ≡ marked_fraction prepared.format direction numerator denominator }
 {
     if denominator == 0 {
-        return RoundedAnswer::Refused(Refusal::DivisorZero);
+        return Err(Refusal::DivisorZero);
     }
     let scale = prepared.scale;
     let up = below_zero(prepared.format.emin);
@@ -52,13 +51,15 @@ fn divide_whole(
 }
 
 // numerator / denominator. Refuses 1, 2, 4, 5.
-pub fn fraction(format: Format, direction: u32, numerator: i32, denominator: u32) -> RoundedAnswer
-    ensures { rounded_given result ≡ fraction_answer format direction numerator denominator }
+pub fn fraction(
+    format: Format,
+    direction: u32,
+    numerator: i32,
+    denominator: u32,
+) -> Result<Rounded, Refusal>
+    ensures { given result ≡ fraction_answer format direction numerator denominator }
 {
-    match with_direction(prepare(format), direction) {
-        Preparation::Refused(why) => RoundedAnswer::Refused(why),
-        Preparation::Ready(prepared) => {
-            divide_whole(prepared, direction_of(direction), numerator, denominator)
-        }
-    }
+    let prepared = prepare(format)?;
+    let direction = Direction::try_from(direction)?;
+    divide_whole(prepared, direction, numerator, denominator)
 }

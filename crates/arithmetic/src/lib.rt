@@ -10,35 +10,20 @@ pub mod product;
 pub mod quotient;
 pub mod sum;
 
-use format::Refusal;
 use number::Number;
 use theory::Mark;
 
 // A rounded number, and how it stands to the exact result.
-#[derive(Clone, Copy)]
+#[derive(Clone, Copy, Debug, PartialEq, Eq, Hash)]
 pub struct Rounded {
     pub number: Number,
     pub mark: Mark,
 }
 
-// The answer of an operation: a refusal has no mark.
-#[derive(Clone, Copy)]
-pub enum RoundedAnswer {
-    Value(Rounded),
-    Refused(Refusal),
-}
-
 // A rounded quotient, how it stands to the exact one, and how many quotient digits were worked out.
-#[derive(Clone, Copy)]
+#[derive(Clone, Copy, Debug, PartialEq, Eq, Hash)]
 pub struct CountedQuotient {
     pub number: Number,
     pub mark: Mark,
     pub digits: u32,
-}
-
-// The answer of the quotient: a refusal has no digits.
-#[derive(Clone, Copy)]
-pub enum QuotientAnswer {
-    Value(CountedQuotient),
-    Refused(Refusal),
 }

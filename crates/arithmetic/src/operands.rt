@@ -1,50 +1,39 @@
 // The powers beside an exact result, and results of the wide format as numbers of the format.
 ghost use Rattle.std.specs.Prelude.{◌≡◌};
 ghost use Rattle.theory.specs.Wide.{Canonical};
+ghost use Rattle.format.specs.Given.{given};
 ghost use Rattle.number.specs.Numbers.{delivered};
-ghost use Rattle.number.specs.Answers.{number_given};
 ghost use Rattle.number.specs.Checks.{Usable};
 ghost use Rattle.wide.specs.Operand.{size_of};
-ghost use Rattle.arithmetic.specs.Marked.{rounded_given, with_mark, without_mark};
+ghost use Rattle.arithmetic.specs.Marked.{with_mark, without_mark};
 
-use crate::{Rounded, RoundedAnswer};
-use format::Prepared;
-use number::NumberAnswer;
+use crate::Rounded;
+use format::{Prepared, Refusal};
+use number::Number;
 use number::delivery::deliver;
 use rounding::Rounding;
 
 // The powers of the base beside an exact result: it is taken base ^ up times and divided by base ^ down.
-#[derive(Clone, Copy)]
+#[derive(Clone, Copy, Debug, PartialEq, Eq, Hash)]
 pub struct Powers {
     pub up: u32,
     pub down: u32,
 }
 
 // A result as a number of the format, with its mark, or refusal 5 above the greatest number.
-pub fn deliver_wide(prepared: Prepared, res: Rounding) -> RoundedAnswer
+pub fn deliver_wide(prepared: Prepared, res: Rounding) -> Result<Rounded, Refusal>
     requires { Usable prepared × Canonical prepared.format.base prepared.format.digits res.wide.significand res.wide.place }
-    ensures { rounded_given result ≡ with_mark res.mark (delivered prepared.format res.wide.negative (size_of prepared.format.base res.wide)) }
+    ensures { given result ≡ with_mark res.mark (delivered prepared.format res.wide.negative (size_of prepared.format.base res.wide)) }
 {
     let wide = res.wide;
     let mark = res.mark;
-    match deliver(prepared, wide.negative, wide.significand, wide.place) {
-        NumberAnswer::Value(number) => RoundedAnswer::Value(Rounded {
-            number: number,
-            mark: mark,
-        }),
-        NumberAnswer::Refused(why) => RoundedAnswer::Refused(why),
-    }
+    let number = deliver(prepared, wide.negative, wide.significand, wide.place)?;
+    Ok(Rounded { number, mark })
 }
 
 // The number without its mark: the three-step sum, its check and the routes go on with it.
-pub fn unmarked(answer: RoundedAnswer) -> NumberAnswer
-    ensures { number_given result ≡ without_mark (rounded_given answer) }
+pub fn unmarked(answer: Result<Rounded, Refusal>) -> Result<Number, Refusal>
+    ensures { given result ≡ without_mark (given answer) }
 {
-    match answer {
-        RoundedAnswer::Value(rounded) => {
-            let number = rounded.number;
-            NumberAnswer::Value(number)
-        }
-        RoundedAnswer::Refused(why) => NumberAnswer::Refused(why),
-    }
+    Ok(answer?.number)
 }

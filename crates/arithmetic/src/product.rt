@@ -1,16 +1,16 @@
 // The product.
 ghost use Rattle.std.specs.Prelude.{◌≡◌};
+ghost use Rattle.format.specs.Given.{given};
 ghost use Rattle.number.specs.Checks.{Operands};
 ghost use Rattle.arithmetic.specs.Operands.{product_powers};
-ghost use Rattle.arithmetic.specs.Marked.{rounded_given, marked_product, product_answer};
+ghost use Rattle.arithmetic.specs.Marked.{marked_product, product_answer};
 
-use crate::RoundedAnswer;
+use crate::Rounded;
 use crate::operands::{Powers, deliver_wide};
 use format::admission::prepare;
-use format::directions::direction_of;
-use format::{Format, Preparation, Prepared};
+use format::{Format, Prepared, Refusal};
 use number::Number;
-use number::checks::{with_direction, with_number};
+use number::checks::with_number;
 use number::exponents::{above_zero, below_zero, place_of};
 use theory::Direction;
 
@@ -27,9 +27,14 @@ fn product_powers(prepared: Prepared, a: Number, b: Number) -> Powers
 }
 
 // a * b, in a format that was prepared. Refuses 5.
-fn marked_product(prepared: Prepared, direction: Direction, a: Number, b: Number) -> RoundedAnswer
+fn marked_product(
+    prepared: Prepared,
+    direction: Direction,
+    a: Number,
+    b: Number,
+) -> Result<Rounded, Refusal>
     requires { Operands prepared a b }
-    ensures { rounded_given result ≡ marked_product prepared.format direction a b }
+    ensures { given result ≡ marked_product prepared.format direction a b }
 {
     let scale = prepared.scale;
     let negative = a.negative != b.negative;
@@ -48,9 +53,14 @@ fn marked_product(prepared: Prepared, direction: Direction, a: Number, b: Number
 
 // The same for the calls on patterns and the routes. It calls the wide product itself: a function with two callers stays one, and what
 // calls it is inlined.
-pub fn multiply(prepared: Prepared, direction: Direction, a: Number, b: Number) -> RoundedAnswer
+pub fn multiply(
+    prepared: Prepared,
+    direction: Direction,
+    a: Number,
+    b: Number,
+) -> Result<Rounded, Refusal>
     requires { Operands prepared a b }
-    ensures { rounded_given result ≡ marked_product prepared.format direction a b }
+    ensures { given result ≡ marked_product prepared.format direction a b }
 {
     let scale = prepared.scale;
     let negative = a.negative != b.negative;
@@ -68,12 +78,11 @@ pub fn multiply(prepared: Prepared, direction: Direction, a: Number, b: Number) 
 }
 
 // a * b. Refuses 1, 2, 3, 5.
-pub fn product(format: Format, direction: u32, a: Number, b: Number) -> RoundedAnswer
-    ensures { rounded_given result ≡ product_answer format direction a b }
+pub fn product(format: Format, direction: u32, a: Number, b: Number) -> Result<Rounded, Refusal>
+    ensures { given result ≡ product_answer format direction a b }
 {
-    let directed = with_direction(prepare(format), direction);
-    match with_number(with_number(directed, b), a) {
-        Preparation::Refused(why) => RoundedAnswer::Refused(why),
-        Preparation::Ready(prepared) => marked_product(prepared, direction_of(direction), a, b),
-    }
+    let prepared = prepare(format)?;
+    let direction = Direction::try_from(direction)?;
+    let prepared = with_number(with_number(prepared, b)?, a)?;
+    marked_product(prepared, direction, a, b)
 }

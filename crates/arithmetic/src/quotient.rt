@@ -1,37 +1,19 @@
 // The quotient, and how many of its digits were worked out.
 ghost use Rattle.std.specs.Prelude.{◌≡◌};
+ghost use Rattle.format.specs.Given.{given};
 ghost use Rattle.number.specs.Checks.{Operands};
 ghost use Rattle.arithmetic.specs.Operands.{quotient_powers};
-ghost use Rattle.arithmetic.specs.Marked.{rounded_given, marked_quotient};
-ghost use Rattle.arithmetic.specs.Quotients.{quotient_given, with_digits, counted_quotient, quotient_answer};
+ghost use Rattle.arithmetic.specs.Marked.{marked_quotient};
+ghost use Rattle.arithmetic.specs.Quotients.{counted_quotient, quotient_answer};
 
 use crate::operands::{Powers, deliver_wide};
-use crate::{CountedQuotient, QuotientAnswer, RoundedAnswer};
+use crate::{CountedQuotient, Rounded};
 use format::admission::prepare;
-use format::directions::direction_of;
-use format::{Format, Preparation, Prepared, Refusal};
+use format::{Format, Prepared, Refusal};
 use number::Number;
-use number::checks::{with_direction, with_number};
+use number::checks::with_number;
 use number::exponents::{above_zero, below_zero, place_of};
 use theory::Direction;
-
-// The same answer, with the number of digits.
-fn with_digits(answer: RoundedAnswer, digits: u32) -> QuotientAnswer
-    ensures { quotient_given result ≡ with_digits digits (rounded_given answer) }
-{
-    match answer {
-        RoundedAnswer::Value(rounded) => {
-            let number = rounded.number;
-            let mark = rounded.mark;
-            QuotientAnswer::Value(CountedQuotient {
-                number: number,
-                mark: mark,
-                digits: digits,
-            })
-        }
-        RoundedAnswer::Refused(why) => QuotientAnswer::Refused(why),
-    }
-}
 
 // The powers beside the quotient of the significands.
 fn quotient_powers(prepared: Prepared, a: Number, b: Number) -> Powers
@@ -51,12 +33,12 @@ fn counted_quotient(
     direction: Direction,
     a: Number,
     b: Number,
-) -> QuotientAnswer
+) -> Result<CountedQuotient, Refusal>
     requires { Operands prepared a b }
-    ensures { quotient_given result ≡ counted_quotient prepared.format direction a b }
+    ensures { given result ≡ counted_quotient prepared.format direction a b }
 {
     if b.significand == 0 {
-        return QuotientAnswer::Refused(Refusal::DivisorZero);
+        return Err(Refusal::DivisorZero);
     }
     let scale = prepared.scale;
     let negative = a.negative != b.negative;
@@ -70,18 +52,28 @@ fn counted_quotient(
         w.up,
         w.down,
     );
-    let rounding = counted.rounding;
-    with_digits(deliver_wide(prepared, rounding), counted.digits)
+    let digits = counted.digits;
+    let rounded = deliver_wide(prepared, counted.rounding)?;
+    Ok(CountedQuotient {
+        number: rounded.number,
+        mark: rounded.mark,
+        digits,
+    })
 }
 
 // The same without the digits, for the calls on patterns. It calls the wide quotient itself, as `multiply` the wide product.
-pub fn divide(prepared: Prepared, direction: Direction, a: Number, b: Number) -> RoundedAnswer
+pub fn divide(
+    prepared: Prepared,
+    direction: Direction,
+    a: Number,
+    b: Number,
+) -> Result<Rounded, Refusal>
     requires { Operands prepared a b }
-    ensures { rounded_given result ≡ marked_quotient prepared.format direction a b }
+    ensures { given result ≡ marked_quotient prepared.format direction a b }
 {
     let divisor = b.significand;
     if divisor == 0 {
-        return RoundedAnswer::Refused(Refusal::DivisorZero);
+        return Err(Refusal::DivisorZero);
     }
     let scale = prepared.scale;
     let negative = a.negative != b.negative;
@@ -100,12 +92,16 @@ pub fn divide(prepared: Prepared, direction: Direction, a: Number, b: Number) ->
 }
 
 // a / b. Refuses 1, 2, 3, 4, 5.
-pub fn quotient(format: Format, direction: u32, a: Number, b: Number) -> QuotientAnswer
-    ensures { quotient_given result ≡ quotient_answer format direction a b }
+pub fn quotient(
+    format: Format,
+    direction: u32,
+    a: Number,
+    b: Number,
+) -> Result<CountedQuotient, Refusal>
+    ensures { given result ≡ quotient_answer format direction a b }
 {
-    let directed = with_direction(prepare(format), direction);
-    match with_number(with_number(directed, b), a) {
-        Preparation::Refused(why) => QuotientAnswer::Refused(why),
-        Preparation::Ready(prepared) => counted_quotient(prepared, direction_of(direction), a, b),
-    }
+    let prepared = prepare(format)?;
+    let direction = Direction::try_from(direction)?;
+    let prepared = with_number(with_number(prepared, b)?, a)?;
+    counted_quotient(prepared, direction, a, b)
 }

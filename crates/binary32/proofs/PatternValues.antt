@@ -1,7 +1,8 @@
 -- The values of patterns as whole multiples of 2 ^ -149: that of a finite pattern is the value of the number read, keys are in the
 -- order of the values, and what a list of patterns says of the list of its values.
-use Rattle.theory.proofs.Prelude.{ℕ, ◌≤◌, ◌<◌, ◌^◌, ◌%◌, true, false, Bool, not, List, map, ◌∙◌, ap, ◌≡◌, sym, refl, ap₂, dec_le, arith, eqb, ltb, pos, nat_abs, length, get_or, length-map, lt_z, ne_eqb, eq-eqb, le-ltb, lt-ltb, not-true, not-false}
-use lib.ListN.{get_or-map}
+use Rattle.theory.proofs.Prelude.{ℕ, ◌≤◌, ◌<◌, ◌+◌, ◌-◌, ◌^◌, ◌%◌, take, drop, true, false, Bool, not, List, map, ◌∙◌, ap, ◌≡◌, sym, refl, ap₂, dec_le, arith, eqb, ltb, pos, nat_abs, length, get_or, length-map, lt_z, ne_eqb, eq-eqb, le-ltb, lt-ltb, not-true, not-false}
+use lib.ListN.{get_or-map, length-take}
+use lib.Seq.{get_or-take, get_or-drop}
 use Rattle.theory.specs.Lists.{none}
 use Rattle.theory.specs.Tests.{◌and◌}
 use Rattle.theory.proofs.Integers.{size_signed}
@@ -32,16 +33,6 @@ pub finite_fails : (n : ℕ) → not_finite n ≡ true → finite n ≡ false
 unfolding not_finite
 finite_fails n h = not-true (finite n) h
 
--- by a test that was made
-module _ (n : ℕ) {t : Bool} (e : t ≡ finite n) where
-  pub finite_stops : not t ≡ true → not_finite n ≡ true
-  unfolding not_finite
-  finite_stops h = ap not (sym e) ∙ h
-
-  pub finite_passes : not t ≡ false → not_finite n ≡ false
-  unfolding not_finite
-  finite_passes h = ap not (sym e) ∙ h
-
 -- no pattern of the list fails to be finite
 pub all_finite : (l : List ℕ) → none not_finite l ≡ true → (k : ℕ) → k < length l → finite (get_or l k 0) ≡ true
 all_finite l h k m = finite_made (get_or l k 0) (none_at not_finite 0 l h k m)
@@ -67,6 +58,13 @@ key_equal a b {x} {y} e f = by (dec_le x y) (dec_le y x) ∙ ap₂ (λ (s t : Bo
     by (no h) g = ne_eqb x y (λ e. omega arith) ∙ sym (rw (le-ltb x y (omega arith), lt-ltb y x (omega arith), ◌and◌))
 
 -- ---- lists
+-- an entry of `l[1..]` in the whole list
+pub later_entry : (l : List ℕ) (i : ℕ) → i < length (take (length l - 1) (drop 1 l)) → (i + 1 < length l) × (get_or (take (length l - 1) (drop 1 l)) i 0 ≡ get_or l (i + 1) 0)
+later_entry l i h =
+    let most : i < length l - 1 = omega (arith, length-take (length l - 1) (drop 1 l)) in
+    let next : 1 + i ≡ i + 1 = omega arith in
+    (omega arith, get_or-take (length l - 1) (drop 1 l) i 0 most ∙ get_or-drop 1 l i 0 ∙ ap (λ (k : ℕ). get_or l k 0) next)
+
 pub zero_value : pattern_value 0 ≡ pos 0
 unfolding pattern_value magnitude_read
 zero_value = refl

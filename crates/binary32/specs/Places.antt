@@ -1,8 +1,7 @@
 -- The places and the neighbours of a number, as patterns.
 use Rattle.std.specs.Prelude.{ℕ}
-use Rattle.format.specs.Given.{Given}
+use Rattle.format.specs.Given.{Given, given}
 use Rattle.format.specs.Published.{binary32}
-use Rattle.number.specs.Answers.{pattern_given}
 use Rattle.number.specs.declared.Number.{Number}
 use Rattle.units.specs.Places.{first_place, last_place}
 use Rattle.units.specs.Neighbours.{predecessor_of, successor_of}
@@ -26,4 +25,4 @@ places_of x =
 
 -- the code's places in these terms
 abbrev pub places_given : Places → PlacesGiven
-places_given p = record { ufp = pattern_given p.ufp; ulp = pattern_given p.ulp; predecessor = pattern_given p.predecessor; successor = pattern_given p.successor }
+places_given p = record { ufp = given p.ufp; ulp = given p.ulp; predecessor = given p.predecessor; successor = given p.successor }

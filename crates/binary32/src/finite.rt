@@ -15,22 +15,16 @@ pub fn is_finite(pattern: u32) -> bool
 pub fn are_finite(a: u32, b: u32) -> bool
     ensures { result ≡ finite a and finite b }
 {
-    if !is_finite(a) {
-        return false;
-    }
-    is_finite(b)
+    is_finite(a) && is_finite(b)
 }
 
-// The position of the first pattern that is not finite, or the length.
+// The position of the first pattern that is not finite, or the length. No Option: its contract stands, and the definitions of other
+// crates go by `first_where`, which is the length where there is none.
 pub fn first_not_finite(patterns: &[u32]) -> usize
     ensures { result ≡ first_where not_finite patterns.now }
 {
-    let mut i = 0;
-    while i < patterns.len() {
-        if !is_finite(patterns[i]) {
-            return i;
-        }
-        i += 1;
-    }
-    i
+    patterns
+        .iter()
+        .position(|&p| !is_finite(p))
+        .unwrap_or(patterns.len())
 }

@@ -4,15 +4,16 @@ ghost use Rattle.std.specs.Int.Signed.{lt_z};
 ghost use Rattle.theory.specs.Tests.{◌and◌};
 ghost use Rattle.binary32.specs.Patterns.{pattern_value, key_of, pattern_of_key};
 
-// A whole number that is in the order of the values.
+// A whole number that is in the order of the values. No type of its own: it would hold nothing more than the number.
 pub fn key(pattern: u32) -> u32
     ensures { result ≡ key_of pattern }
 {
     let size = pattern % 2147483648;
     if 2147483648 <= pattern {
-        return 2147483648 - size;
+        2147483648 - size
+    } else {
+        2147483648 + size
     }
-    2147483648 + size
 }
 
 // The pattern with this key.
@@ -21,9 +22,10 @@ pub fn pattern_of_key(k: u32) -> u32
     ensures { result ≡ pattern_of_key k }
 {
     if 2147483648 <= k {
-        return k - 2147483648;
+        k - 2147483648
+    } else {
+        k.wrapping_neg()
     }
-    4294967295 - k + 1
 }
 
 // Is the value of a below that of b?

@@ -1,20 +1,19 @@
 // A pattern read as a number of published format 2, and a number written as a pattern.
-ghost use Rattle.std.specs.Prelude.{◌≡◌, true, cond, ◌+◌, ◌-◌, ◌<◌, ◌^◌, eqb};
+ghost use Rattle.std.specs.Prelude.{◌≡◌, true, cond, ◌+◌, ◌-◌, ◌<◌, ◌^◌, eqb, Ok};
+ghost use Rattle.format.specs.Given.{given};
 ghost use Rattle.format.specs.Published.{binary32};
 ghost use Rattle.number.specs.declared.Number.{Number};
-ghost use Rattle.number.specs.declared.NumberAnswer.TheVariants.{Value};
-ghost use Rattle.number.specs.Answers.{number_given, pattern_given};
 ghost use Rattle.number.specs.Numbers.{member};
 ghost use Rattle.binary32.specs.Patterns.{field_of, finite, number_read, pattern_read, pattern_of, pattern_written, answer_written};
 
 use crate::finite::is_finite;
 use crate::prepared::prepared_binary32;
 use format::admission::distance;
-use format::{Preparation, Refusal, Significand};
+use format::{Refusal, Significand};
+use number::Number;
 use number::checks::with_number;
 use number::delivery::number_at;
 use number::patterns::sign_weight;
-use number::{Number, NumberAnswer, PatternAnswer};
 
 // Eight bits of the exponent.
 pub fn field_of(pattern: u32) -> u32
@@ -27,7 +26,7 @@ pub fn field_of(pattern: u32) -> u32
 pub fn place_of(field: u32) -> u32
     ensures { result ≡ field - 1 }
 {
-    if field == 0 { 0 } else { field - 1 }
+    field.saturating_sub(1)
 }
 
 // The fraction, with its leading digit unless the field is 0.
@@ -40,7 +39,7 @@ pub fn significand_of(field: u32, fraction: u32) -> Significand
     if field == 0 { digits } else { leading }
 }
 
-// The number that a finite pattern stands for.
+// The number that a finite pattern stands for. It takes any pattern, with its condition, as docs/CLAIMS.md lists it.
 pub fn read_finite(pattern: u32) -> Number
     requires { finite pattern ≡ true }
     ensures { result ≡ number_read pattern }
@@ -52,13 +51,13 @@ pub fn read_finite(pattern: u32) -> Number
 }
 
 // The number that a pattern stands for. Refuses 9.
-pub fn read_pattern(pattern: u32) -> NumberAnswer
-    ensures { number_given result ≡ pattern_read pattern }
+pub fn read_pattern(pattern: u32) -> Result<Number, Refusal>
+    ensures { given result ≡ pattern_read pattern }
 {
     if !is_finite(pattern) {
-        return NumberAnswer::Refused(Refusal::NotFinite);
+        return Err(Refusal::NotFinite);
     }
-    NumberAnswer::Value(read_finite(pattern))
+    Ok(read_finite(pattern))
 }
 
 // The pattern of a number of the format: the significand's leading digit adds one to the field.
@@ -72,22 +71,17 @@ pub fn pattern_of(x: Number) -> u32
 }
 
 // The pattern of a number. Refuses 3.
-pub fn write_pattern(x: Number) -> PatternAnswer
-    ensures { pattern_given result ≡ pattern_written x }
+pub fn write_pattern(x: Number) -> Result<u32, Refusal>
+    ensures { given result ≡ pattern_written x }
 {
-    match with_number(Preparation::Ready(prepared_binary32()), x) {
-        Preparation::Refused(why) => PatternAnswer::Refused(why),
-        Preparation::Ready(_) => PatternAnswer::Written(pattern_of(x)),
-    }
+    with_number(prepared_binary32(), x)?;
+    Ok(pattern_of(x))
 }
 
 // An answer with its number written.
-pub fn write_answer(answer: NumberAnswer) -> PatternAnswer
-    requires { (x : Number) → answer ≡ Value x → member binary32 x ≡ true }
-    ensures { pattern_given result ≡ answer_written (number_given answer) }
+pub fn write_answer(answer: Result<Number, Refusal>) -> Result<u32, Refusal>
+    requires { (x : Number) → answer ≡ Ok x → member binary32 x ≡ true }
+    ensures { given result ≡ answer_written (given answer) }
 {
-    match answer {
-        NumberAnswer::Refused(why) => PatternAnswer::Refused(why),
-        NumberAnswer::Value(x) => PatternAnswer::Written(pattern_of(x)),
-    }
+    Ok(pattern_of(answer?))
 }

@@ -22,8 +22,8 @@ pub fn prepared_binary32() -> Prepared
         bound: 16777216,
     };
     Prepared {
-        format: format,
-        scale: scale,
+        format,
+        scale,
         highest: 253,
     }
 }

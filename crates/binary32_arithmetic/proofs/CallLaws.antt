@@ -1,6 +1,6 @@
 -- A call on patterns is the call of format 2 on the numbers that the patterns stand for: its pattern, read, is the number that the
 -- call on numbers gives, its mark and its refusal are that call's, in every direction. An infinity or NaN is refused by 9, after 2.
-use Rattle.theory.proofs.Prelude.{ℕ, true, false, Bool, cond, [], ◌∷◌, ◌∙◌, ap, ◌≡◌, sym, refl, ap₂, arith}
+use Rattle.theory.proofs.Prelude.{ℕ, true, false, Bool, [], ◌∷◌, ◌∙◌, ap, ◌≡◌, sym, refl, ap₂}
 use Rattle.theory.specs.Lists.{all}
 use Rattle.theory.specs.Tests.{◌and◌, unless}
 use Rattle.theory.specs.declared.Direction.{Direction}
@@ -11,7 +11,7 @@ use Rattle.format.specs.declared.Refusal.{Refusal}
 use Rattle.format.specs.declared.Refusal.TheVariants.{NoSuchDirection, NotFinite}
 use Rattle.format.specs.Formats.{prepared_of}
 use Rattle.format.specs.Refusals.{refusal_number}
-use Rattle.format.specs.Given.{Given, gives, refused, refused_at, ◌then◌}
+use Rattle.format.specs.Given.{Given, gives, refused, refused_at, given, ◌then◌}
 use Rattle.format.specs.Directions.{is_direction, direction}
 use Rattle.format.specs.Published.{binary32}
 use Rattle.number.specs.declared.Number.{Number}
@@ -31,7 +31,7 @@ use Rattle.binary32.proofs.Fields.{binary32_admitted, binary32_limits}
 use Rattle.binary32.proofs.RoundTrips.{Reads, reads, read_member, pattern_member, written_read}
 use Rattle.binary32_arithmetic.specs.Calls.{Operation, Sum, Difference, Product, Quotient, marked_by, rounded_written, pattern_alone, on_patterns, pattern_call, call_read}
 use Rattle.binary32_arithmetic.specs.declared.MarkedPattern.{MarkedPattern}
-use Rattle.binary32_arithmetic.specs.declared.operations.CallRead.TheVariants.{Ready, Refused}
+use Rattle.std.specs.Prelude.{Result, Ok, Err}
 
 -- the call on numbers of format 2; of the quotient, without its digits
 abbrev pub number_call : Operation → (d : ℕ) (x y : Number) → Given Rounded
@@ -92,52 +92,68 @@ rounded_member Quotient d a b e = quotient_member binary32_limits d a b e
 pub result_member : (operation : Operation) (d : Direction) (a b : Number) {r : Rounded} → marked_by operation binary32 d a b ≡ gives r → member binary32 r.number ≡ true
 result_member operation d a b e = rounded_member operation d a b (sym (unmarked_by operation d a b) ∙ ap without_mark e)
 
--- ---- what a call is given: two numbers of format 2, on which the call is the operation
-pub record Read (d a b : ℕ) (t : Direction) (x y : Number) : Type 0 where
+-- ---- the numbers of two finite patterns: they are of format 2, and an operation on them is the one on the patterns
+pub record Numbers (a b : ℕ) (x y : Number) : Type 0 where
   pub first : member binary32 x ≡ true
   pub second : member binary32 y ≡ true
-  pub is : (operation : Operation) → rounded_written (marked_by operation binary32 t x y) ≡ pattern_call operation d a b
+  pub is : (operation : Operation) (d : Direction) → rounded_written (marked_by operation binary32 d x y) ≡ on_patterns operation d a b
 
-other : {A : Type 0} {why : Refusal} {t : Direction} {x y : Number} → Refused why ≡ Ready t x y → A
-other e = let z : ◌≡◌ {A = ℕ} 0 1 = cc in absurd (omega arith)
+pub numbers_read : {a b : ℕ} {x y : Number} → finite a and finite b ≡ true → x ≡ number_read a → y ≡ number_read b → Numbers a b x y
+unfolding on_patterns
+numbers_read {a} {b} h f g =
+    record {
+      first = pattern_member a (and_left _ _ h) f;
+      second = pattern_member b (and_right _ _ h) g;
+      is = λ o d. ap rounded_written (ap₂ (marked_by o binary32 d) f g) ∙ sym (unless_passed _ _ h);
+    }
+
+-- in the format of the constants
+module _ {a b : ℕ} {x y : Number} (n : Numbers a b x y) {q : Prepared} (e : q ≡ prepared_of binary32) where
+  constant_format : (operation : Operation) (d : Direction) → marked_by operation q.format d x y ≡ marked_by operation binary32 d x y
+  constant_format o d = ap (λ (f : Format). marked_by o f d x y) (prepared_format e)
+
+  pub constant_operands : Operands q x y
+  constant_operands = record { usable = usable binary32_admitted e; first = prepared_member e _ n.first; second = prepared_member e _ n.second }
+
+  module _ (operation : Operation) (d : Direction) (r : Result Rounded Refusal) (k : given r ≡ marked_by operation q.format d x y) where
+    pub constant_member : (z : Rounded) → r ≡ Ok z → member binary32 z.number ≡ true
+    constant_member z h = result_member operation d x y (sym (k ∙ constant_format operation d) ∙ ap given h)
+
+    pub constant_written : rounded_written (given r) ≡ on_patterns operation d a b
+    constant_written = ap rounded_written (k ∙ constant_format operation d) ∙ n.is operation d
+
+-- ---- what a call is given: a direction, and the numbers of the patterns
+pub record Read (d a b : ℕ) (t : Direction) (x y : Number) : Type 0 where
+  pub numbers : Numbers a b x y
+  pub is : (operation : Operation) → on_patterns operation t a b ≡ pattern_call operation d a b
 
 module _ (d a b : ℕ) where
-  pub call_ready : {t : Direction} {x y : Number} → call_read d a b ≡ Ready t x y → Read d a b t x y
-  unfolding call_read pattern_call on_patterns
+  pub call_ready : {t : Direction} {x y : Number} → call_read d a b ≡ Ok (t, x, y) → Read d a b t x y
+  unfolding call_read pattern_call unless
   call_ready {t} {x} {y} e = by (is_direction d) refl (finite a and finite b) refl e
     where
       by : (p : Bool) → is_direction d ≡ p → (q : Bool) → finite a and finite b ≡ q
-          → cond p (cond q (Ready (direction d) (number_read a) (number_read b)) (Refused NotFinite)) (Refused NoSuchDirection) ≡ Ready t x y → Read d a b t x y
+          → unless {A = Result (Direction × Number × Number) Refusal} p (Err NoSuchDirection) (unless q (Err NotFinite) (Ok (direction d, number_read a, number_read b))) ≡ Ok (t, x, y)
+          → Read d a b t x y
       by true f true g k =
-          let et : t ≡ direction d = cc in
-          let ex : x ≡ number_read a = cc in
-          let ey : y ≡ number_read b = cc in
+          let same : ◌≡◌ {A = Direction × Number × Number} (t, x, y) (direction d, number_read a, number_read b) = cc in
           record {
-            first = pattern_member a (and_left _ _ g) ex;
-            second = pattern_member b (and_right _ _ g) ey;
-            is = λ o. rw (et, ex, ey) (sym (unless_passed _ _ f ∙ unless_passed _ _ g));
+            numbers = numbers_read g (ap (λ (p : Direction × Number × Number). p.1) same) (ap (λ (p : Direction × Number × Number). p.2) same);
+            is = λ o. ap (λ (k : Direction). on_patterns o k a b) (ap (λ (p : Direction × Number × Number). p.0) same) ∙ sym (unless_passed _ _ f);
           }
-      by true f false g k = other k
-      by false f q g k = other k
+      by true f false g k = cc
+      by false f q g k = cc
 
-  pub call_refused : {why : Refusal} → call_read d a b ≡ Refused why → (operation : Operation) → refused (refusal_number why) ≡ pattern_call operation d a b
-  unfolding call_read pattern_call on_patterns
+  pub call_refused : {why : Refusal} → call_read d a b ≡ Err why → (operation : Operation) → refused (refusal_number why) ≡ pattern_call operation d a b
+  unfolding call_read pattern_call on_patterns unless
   call_refused {why} e o = by (is_direction d) refl (finite a and finite b) refl e
     where
       by : (p : Bool) → is_direction d ≡ p → (q : Bool) → finite a and finite b ≡ q
-          → cond p (cond q (Ready (direction d) (number_read a) (number_read b)) (Refused NotFinite)) (Refused NoSuchDirection) ≡ Refused why
+          → unless {A = Result (Direction × Number × Number) Refusal} p (Err NoSuchDirection) (unless q (Err NotFinite) (Ok (direction d, number_read a, number_read b))) ≡ Err why
           → refused (refusal_number why) ≡ pattern_call o d a b
-      by true f true g k = other (sym k)
+      by true f true g k = cc
       by true f false g k = let e : why ≡ NotFinite = cc in rw e (sym (unless_passed _ _ f ∙ unless_failed _ _ g))
       by false f q g k = let e : why ≡ NoSuchDirection = cc in rw e (sym (unless_failed _ _ f))
-
--- what the operations ask of the format's constants, and what they give with them
-module _ {q : Prepared} (e : q ≡ prepared_of binary32) where
-  pub constant_operands : {x y : Number} → member binary32 x ≡ true → member binary32 y ≡ true → Operands q x y
-  constant_operands h k = record { usable = usable binary32_admitted e; first = prepared_member e _ h; second = prepared_member e _ k }
-
-  pub constant_format : (operation : Operation) (d : Direction) (x y : Number) → marked_by operation q.format d x y ≡ marked_by operation binary32 d x y
-  constant_format o d x y = ap (λ (f : Format). marked_by o f d x y) (prepared_format e)
 
 -- a result, written and read
 back : (operation : Operation) (t : Direction) (x y : Number) {r : Given Rounded} → marked_by operation binary32 t x y ≡ r → read_back (rounded_written r) ≡ r

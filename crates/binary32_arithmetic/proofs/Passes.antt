@@ -1,6 +1,18 @@
 -- What the passes over two slices compute: the first refused entry, and one sum more.
-use Rattle.theory.proofs.Prelude.{ℕ, ◌≤◌, ◌<◌, ◌+◌, suc, zero, false, [], ◌∷◌, List, ◌++◌, append_assoc, ap, ◌≡◌, sym, refl, add-one, arith, length, get_or, drop, take, set, drop-cons, drop-length}
+use Rattle.theory.proofs.Prelude.{ℕ, ◌≤◌, ◌<◌, ◌+◌, suc, zero, false, [], ◌∷◌, List, ◌++◌, append_assoc, ap, ◌≡◌, ◌∙◌, sym, refl, add-one, arith, length, get_or, drop, take, set, drop-cons, drop-length}
 use lib.ListN.{get_or-eq_default}
+use Rattle.std.proofs.Common.{Iter}
+use Rattle.std.specs.declared.iter.Zip.{Zip}
+use Rattle.std.specs.declared.iter.Enumerate.{Enumerate}
+use Rattle.std.specs.Iterator.Adapters.{enumerate_source, enumerate_count, enumerate_steps, zip_first, zip_second}
+use Rattle.std.specs.List.{zip, enumerate_from}
+use Rattle.std.specs.Slice.Iter.{iter_rest}
+use Rattle.std.proofs.iter.Yields.{fronts}
+use Rattle.std.proofs.lemmas.Iterator.{YieldsList, YieldsList-from_slice, YieldsList-from_zip, zips}
+use Rattle.std.proofs.lemmas.Iterator.Consumers.{YieldsList-from_enumerate}
+use Rattle.std.proofs.lemmas.List.{get_or_default}
+use Rattle.std.proofs.lemmas.List.FromFn.{length-enumerate_from, get_or-enumerate_from}
+use Rattle.std.proofs.lemmas.Slice.Zip.{length-zip, get_or-zip}
 use lib.Seq.{take-suc-set}
 use Rattle.theory.specs.declared.Direction.{Direction}
 use Rattle.theory.proofs.Lists.{first_is, first_none}
@@ -38,6 +50,35 @@ entry_at d [] b e i h = absurd (omega arith)
 entry_at d (x ∷ a) [] e i h = absurd (omega (arith, e))
 entry_at d (x ∷ a) (y ∷ b) e zero h = refl
 entry_at d (x ∷ a) (y ∷ b) e (suc i) h = entry_at d a b (omega (arith, e)) i (omega arith)
+
+-- ---- a pass over the pairs of two slices of one length, with their index
+pub pairs : (a b : List ℕ) {s : Enumerate (Zip (Iter ℕ) (Iter ℕ))} → iter_rest (zip_first (enumerate_source s)) ≡ a → iter_rest (zip_second (enumerate_source s)) ≡ b → enumerate_count s ≡ 0
+    → YieldsList {B = ℕ × (ℕ × ℕ)} (enumerate_steps (zips fronts fronts)) (λ p. (p.0, (p.1.0.now, p.1.1.now))) s (enumerate_from 0 (zip a b))
+pairs a b f g n = YieldsList-from_enumerate (YieldsList-from_zip (YieldsList-from_slice a f) (YieldsList-from_slice b g)) n
+
+-- the pair with index n
+pub record Pair (a b : List ℕ) (n i x y : ℕ) : Type 0 where
+  pub within : n < length a
+  pub index : i ≡ n
+  pub first : x ≡ get_or a n 0
+  pub second : y ≡ get_or b n 0
+
+pub pair : (a b : List ℕ) {n i x y : ℕ} → length a ≡ length b
+    → (n < length (enumerate_from 0 (zip a b))) × ((i, (x, y)) ≡ get_or (enumerate_from 0 (zip a b)) n (i, (x, y))) → Pair a b n i x y
+pair a b {n} {i} {x} {y} e h =
+    let ha : n < length a = omega (arith, h.0, length-enumerate_from 0 (zip a b), length-zip a b) in
+    let hb : n < length b = omega arith in
+    let is : ◌≡◌ {A = ℕ × (ℕ × ℕ)} (i, (x, y)) (0 + n, (get_or a n x, get_or b n y)) =
+    h.1 ∙ get_or-enumerate_from 0 (zip a b) n (i, (x, y)) (omega (arith, length-zip a b)) ∙ ap (λ (p : ℕ × ℕ). (0 + n, p)) (get_or-zip a b n (x, y) ha hb) in
+    record {
+      within = ha;
+      index = omega (arith, ap (λ (p : ℕ × (ℕ × ℕ)). p.0) is);
+      first = ap (λ (p : ℕ × (ℕ × ℕ)). p.1.0) is ∙ get_or_default a n x 0 ha;
+      second = ap (λ (p : ℕ × (ℕ × ℕ)). p.1.1) is ∙ get_or_default b n y 0 hb;
+    }
+
+pub pairs_end : (a b : List ℕ) {n : ℕ} → length a ≡ length b → n ≡ length (enumerate_from 0 (zip a b)) → n ≡ length a
+pairs_end a b e h = omega (arith, h, length-enumerate_from 0 (zip a b), length-zip a b)
 
 -- ---- the first pass
 pub refused_first : (es : List (Given ℕ)) (i : ℕ) {k : ℕ} → i < length es → get_or es i (gives 0) ≡ refused k

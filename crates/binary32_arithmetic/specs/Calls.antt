@@ -1,27 +1,18 @@
 -- The four operations on binary32 patterns: the direction (2), the patterns (9), then the operation of format 2 (4, 5), written, with its mark.
-use Rattle.std.specs.Prelude.{ℕ, cond}
+use Rattle.std.specs.Prelude.{ℕ, Result, Ok, Err}
 use Rattle.theory.specs.Tests.{◌and◌, unless}
 use Rattle.theory.specs.declared.Direction.{Direction}
 use Rattle.format.specs.declared.Format.{Format}
+use Rattle.format.specs.declared.Refusal.{Refusal}
 use Rattle.format.specs.declared.Refusal.TheVariants.{NoSuchDirection, NotFinite}
 use Rattle.format.specs.Directions.{is_direction, direction}
 use Rattle.format.specs.Given.{Given, gives, refused, ◌then◌}
-use Rattle.format.specs.Refusals.{refusal_number}
 use Rattle.format.specs.Published.{binary32}
 use Rattle.number.specs.declared.Number.{Number}
 use Rattle.arithmetic.specs.declared.Rounded.{Rounded}
 use Rattle.arithmetic.specs.Marked.{marked_sum, marked_difference, marked_product, marked_quotient}
 use Rattle.binary32.specs.Patterns.{finite, number_read, pattern_of}
 use Rattle.binary32_arithmetic.specs.declared.MarkedPattern.{MarkedPattern}
-use Rattle.binary32_arithmetic.specs.declared.MarkedPatternAnswer.{MarkedPatternAnswer}
-use Rattle.binary32_arithmetic.specs.declared.MarkedPatternAnswer.TheVariants as answer
-use Rattle.binary32_arithmetic.specs.declared.operations.CallRead.{CallRead}
-use Rattle.binary32_arithmetic.specs.declared.operations.CallRead.TheVariants.{Ready, Refused}
-
--- the answer of a call in the papers' terms
-abbrev pub marked_pattern_given : MarkedPatternAnswer → Given MarkedPattern
-marked_pattern_given (answer.Written x) = gives x
-marked_pattern_given (answer.Refused why) = refused (refusal_number why)
 
 -- the pattern without its mark
 abbrev pub pattern_alone : Given MarkedPattern → Given ℕ
@@ -54,6 +45,7 @@ unfoldable pub pattern_call : Operation → (d a b : ℕ) → Given MarkedPatter
 pattern_call operation d a b = unless (is_direction d) (refused 2) (on_patterns operation (direction d) a b)
 
 -- ---- for inner functions: what a call is given, before the operation
-unfoldable pub call_read : (d a b : ℕ) → CallRead
+unfoldable pub call_read : (d a b : ℕ) → Result (Direction × Number × Number) Refusal
 call_read d a b =
-    cond (is_direction d) (cond (finite a and finite b) (Ready (direction d) (number_read a) (number_read b)) (Refused NotFinite)) (Refused NoSuchDirection)
+    unless (is_direction d) (Err NoSuchDirection)
+    (unless (finite a and finite b) (Err NotFinite) (Ok (direction d, number_read a, number_read b)))

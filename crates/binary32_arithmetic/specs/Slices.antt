@@ -7,25 +7,9 @@ use Rattle.theory.specs.declared.Mark.TheVariants.{Exact}
 use Rattle.theory.specs.Marks.{inexact}
 use Rattle.format.specs.Directions.{is_direction, direction}
 use Rattle.format.specs.Given.{Given, gives, refused, refused_at, ◌then◌}
-use Rattle.format.specs.Refusals.{refusal_number}
 use Rattle.binary32.specs.Patterns.{pattern_value}
 use Rattle.binary32_arithmetic.specs.Calls.{Sum, on_patterns, pattern_alone}
 use Rattle.binary32_arithmetic.specs.declared.MarkedPattern.{MarkedPattern}
-use Rattle.binary32_arithmetic.specs.declared.SliceAnswer.{SliceAnswer}
-use Rattle.binary32_arithmetic.specs.declared.SliceAnswer.TheVariants as answer
-use Rattle.binary32_arithmetic.specs.declared.Examined.{Examined}
-use Rattle.binary32_arithmetic.specs.declared.Examined.TheVariants as examined
-
--- the answer of sum_slices in the papers' terms
-abbrev pub slices_given : SliceAnswer → Given ℕ
-slices_given (answer.Done inexact) = gives inexact
-slices_given (answer.Refused why) = refused (refusal_number why)
-slices_given (answer.RefusedAt why index) = refused_at (refusal_number why) index
-
--- and of its first pass
-abbrev pub examined_given : Examined → Given Unit
-examined_given examined.Passed = gives tt
-examined_given (examined.RefusedAt why index) = refused_at (refusal_number why) index
 
 -- ---- an entry by itself
 -- the sum of two patterns, without its mark

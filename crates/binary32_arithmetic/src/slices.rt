@@ -2,20 +2,18 @@
 ghost use Rattle.std.specs.Prelude.{◌≡◌, ◌*◌, ◌%◌, ◌^◌, ltb, length};
 ghost use Rattle.theory.specs.Tests.{◌and◌};
 ghost use Rattle.format.specs.Directions as directions;
-ghost use Rattle.format.specs.Given.{verdict_given};
+ghost use Rattle.format.specs.Given.{given, given_at};
 ghost use Rattle.theory.specs.Marks.{inexact};
 ghost use Rattle.binary32_arithmetic.specs.Calls.{on_patterns, Sum};
-ghost use Rattle.binary32_arithmetic.specs.Slices.{slices_given, examined_given, entry_sum, passes, entries, first_refused, sums, entry_written, inexact_entries, slices_answer, slices_written};
+ghost use Rattle.binary32_arithmetic.specs.Slices.{entry_sum, passes, entries, first_refused, sums, entry_written, inexact_entries, slices_answer, slices_written};
 
+use crate::MarkedPattern;
 use crate::operations::write_rounded;
-use crate::{Examined, MarkedPattern, MarkedPatternAnswer, SliceAnswer};
 use arithmetic::sum::{add, marked_sum};
 use binary32::finite::are_finite;
 use binary32::patterns::read_finite;
 use binary32::prepared::prepared_binary32;
-use format::directions::{direction_of, is_direction};
-use format::{Refusal, Verdict};
-use number::NumberAnswer;
+use format::{ListRefusal, Refusal};
 use theory::{Direction, Mark};
 
 // Is the pattern's magnitude at most half the greatest number? Its exponent field is below 254.
@@ -28,42 +26,33 @@ fn is_half(pattern: u32) -> bool
 fn are_halves(a: u32, b: u32) -> bool
     ensures { result ≡ ltb (a % 2 ^ 31) (254 * 2 ^ 23) and ltb (b % 2 ^ 31) (254 * 2 ^ 23) }
 {
-    if !is_half(a) {
-        return false;
-    }
-    is_half(b)
+    is_half(a) && is_half(b)
 }
 
 // Is an entry refused? Two magnitudes of at most half the greatest number are not.
-fn examine(direction: Direction, a: u32, b: u32) -> Verdict
-    ensures { verdict_given result ≡ passes (entry_sum direction a b) }
+fn examine(direction: Direction, a: u32, b: u32) -> Result<(), Refusal>
+    ensures { given result ≡ passes (entry_sum direction a b) }
 {
     if are_halves(a, b) {
-        return Verdict::Passed;
+        return Ok(());
     }
     if !are_finite(a, b) {
-        return Verdict::Refused(Refusal::NotFinite);
+        return Err(Refusal::NotFinite);
     }
-    match add(
+    add(
         prepared_binary32(),
         direction,
         read_finite(a),
         read_finite(b),
-    ) {
-        NumberAnswer::Value(_) => Verdict::Passed,
-        NumberAnswer::Refused(why) => Verdict::Refused(why),
-    }
+    )?;
+    Ok(())
 }
 
 // 1 for a mark that is not exact.
 fn inexact_count(mark: Mark) -> usize
     ensures { result ≡ inexact mark }
 {
-    match mark {
-        Mark::Exact => 0,
-        Mark::Low => 1,
-        Mark::High => 1,
-    }
+    usize::from(mark != Mark::Exact)
 }
 
 // The sum of two entries, as it is written; no entry is refused where this is called.
@@ -77,33 +66,29 @@ fn sum_entry(direction: Direction, a: u32, b: u32) -> MarkedPattern
     if !are_finite(a, b) {
         return none;
     }
-    match write_rounded(marked_sum(
+    write_rounded(marked_sum(
         prepared_binary32(),
         direction,
         read_finite(a),
         read_finite(b),
-    )) {
-        MarkedPatternAnswer::Refused(_) => none,
-        MarkedPatternAnswer::Written(entry) => entry,
-    }
+    ))
+    .unwrap_or(none)
 }
 
 // The first pass.
-fn first_refused(direction: Direction, a: &[u32], b: &[u32]) -> Examined
+fn first_refused(direction: Direction, a: &[u32], b: &[u32]) -> Result<(), ListRefusal>
     requires { length a.now ≡ length b.now }
-    ensures { examined_given result ≡ first_refused (entries direction a.now b.now) }
+    ensures { given_at result ≡ first_refused (entries direction a.now b.now) }
 {
-    let mut i = 0;
-    while i < a.len() {
-        if let Verdict::Refused(why) = examine(direction, a[i], b[i]) {
-            return Examined::RefusedAt(why, i);
+    for (index, (&x, &y)) in a.iter().zip(b).enumerate() {
+        if let Err(why) = examine(direction, x, y) {
+            return Err(ListRefusal::Entry(why, index));
         }
-        i += 1;
     }
-    Examined::Passed
+    Ok(())
 }
 
-// The second pass: how many entries are not exact.
+// The second pass: how many entries are not exact. `out` by index: of a slice that `iter_mut` lent a proof knows the length alone.
 fn write_sums(direction: Direction, a: &[u32], b: &[u32], out: &mut [u32]) -> usize
     requires b_length { length a.now ≡ length b.now }
     requires out_length { length a.now ≡ length out.old }
@@ -111,34 +96,31 @@ fn write_sums(direction: Direction, a: &[u32], b: &[u32], out: &mut [u32]) -> us
     ensures written { out.new ≡ sums direction a.now b.now }
 {
     let mut inexact = 0;
-    let mut done = 0;
-    while done < a.len() {
-        let entry = sum_entry(direction, a[done], b[done]);
-        let mark = entry.mark;
-        out[done] = entry.pattern;
-        inexact += inexact_count(mark);
-        done += 1;
+    for (i, (&x, &y)) in a.iter().zip(b).enumerate() {
+        let entry = sum_entry(direction, x, y);
+        out[i] = entry.pattern;
+        inexact += inexact_count(entry.mark);
     }
     inexact
 }
 
 // a + b entry by entry into out, and how many entries are not exact. Refuses 11, 2, and 9 and 5 with the index of the first refused entry.
-pub fn sum_slices(direction: u32, a: &[u32], b: &[u32], out: &mut [u32]) -> SliceAnswer
-    ensures answer { slices_given result ≡ slices_answer direction a.now b.now out.old }
-    ensures written { out.new ≡ slices_written (slices_given result) (sums (directions.direction direction) a.now b.now) out.old }
+pub fn sum_slices(
+    direction: u32,
+    a: &[u32],
+    b: &[u32],
+    out: &mut [u32],
+) -> Result<usize, ListRefusal>
+    ensures answer { given_at result ≡ slices_answer direction a.now b.now out.old }
+    ensures written { out.new ≡ slices_written (given_at result) (sums (directions.direction direction) a.now b.now) out.old }
 {
     if a.len() != b.len() {
-        return SliceAnswer::Refused(Refusal::LengthsDiffer);
+        return Err(ListRefusal::Whole(Refusal::LengthsDiffer));
     }
     if a.len() != out.len() {
-        return SliceAnswer::Refused(Refusal::LengthsDiffer);
+        return Err(ListRefusal::Whole(Refusal::LengthsDiffer));
     }
-    if !is_direction(direction) {
-        return SliceAnswer::Refused(Refusal::NoSuchDirection);
-    }
-    let rounding = direction_of(direction);
-    match first_refused(rounding, a, b) {
-        Examined::RefusedAt(why, index) => SliceAnswer::RefusedAt(why, index),
-        Examined::Passed => SliceAnswer::Done(write_sums(rounding, a, b, out)),
-    }
+    let direction = Direction::try_from(direction).map_err(Refusal::from)?;
+    first_refused(direction, a, b)?;
+    Ok(write_sums(direction, a, b, out))
 }

@@ -1,11 +1,8 @@
 -- binary64 patterns: those of 11 exponent bits and 52 fraction bits, with values in units of 2 ^ -1074.
 use Rattle.std.specs.Prelude.{ℕ}
-use Rattle.format.specs.Given.{Given, gives, refused}
-use Rattle.format.specs.Refusals.{refusal_number}
+use Rattle.format.specs.Given.{Given}
 use Rattle.number.specs.declared.Number.{Number}
 use Rattle.binary_patterns.specs.Patterns.{pattern_read, pattern_written}
-use Rattle.binary64.specs.declared.Pattern64Answer.{Pattern64Answer}
-use Rattle.binary64.specs.declared.Pattern64Answer.TheVariants as pattern
 
 -- the answer of read_binary64: the number that a finite pattern stands for, or refusal 9
 abbrev pub binary64_read : ℕ → Given Number
@@ -14,8 +11,3 @@ binary64_read n = pattern_read 11 52 n
 -- the answer of write_binary64: the pattern of a number of published format 4, or refusal 3
 abbrev pub binary64_written : Number → Given ℕ
 binary64_written x = pattern_written 11 52 x
-
--- the code's answer in these terms
-abbrev pub pattern64_given : Pattern64Answer → Given ℕ
-pattern64_given (pattern.Written n) = gives n
-pattern64_given (pattern.Refused why) = refused (refusal_number why)

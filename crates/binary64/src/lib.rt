@@ -3,12 +3,3 @@
 
 pub mod patterns;
 mod prepared;
-
-use format::Refusal;
-
-// A pattern of 64 bits, or why there is none.
-#[derive(Clone, Copy)]
-pub enum Pattern64Answer {
-    Written(u64),
-    Refused(Refusal),
-}

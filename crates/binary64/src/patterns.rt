@@ -1,19 +1,19 @@
-// A pattern read as a number of published format 4, and a number written as a pattern.
+// A pattern read as a number of published format 4, and a number written as a pattern. The steps are those of binary32 at other widths: a
+// trait of both would ask each for its field, fraction, sign, weights and prepared format, and so be longer than the steps.
 ghost use Rattle.std.specs.Prelude.{◌≡◌, true, cond, ◌+◌, ◌-◌, ◌<◌, ◌^◌, eqb};
+ghost use Rattle.format.specs.Given.{given};
 ghost use Rattle.format.specs.Published.{binary64};
-ghost use Rattle.number.specs.Answers.{number_given};
 ghost use Rattle.number.specs.Numbers.{member};
 ghost use Rattle.number.specs.Patterns.{weight_above};
 ghost use Rattle.binary_patterns.specs.Patterns.{field_of, finite, number_read, pattern_of};
-ghost use Rattle.binary64.specs.Patterns.{pattern64_given, binary64_read, binary64_written};
+ghost use Rattle.binary64.specs.Patterns.{binary64_read, binary64_written};
 
-use crate::Pattern64Answer;
 use crate::prepared::prepared_binary64;
 use format::admission::distance;
-use format::{Preparation, Refusal, Significand};
+use format::{Refusal, Significand};
+use number::Number;
 use number::checks::with_number;
 use number::delivery::number_at;
-use number::{Number, NumberAnswer};
 
 // Eleven bits of the exponent.
 fn field_of(pattern: u64) -> u32
@@ -29,13 +29,6 @@ fn is_finite(pattern: u64) -> bool
     field_of(pattern) != 2047
 }
 
-// The place that a field stands for: 0 and 1 both stand for the lowest.
-fn place_of(field: u32) -> u32
-    ensures { result ≡ field - 1 }
-{
-    if field == 0 { 0 } else { field - 1 }
-}
-
 // The fraction, with its leading digit unless the field is 0.
 fn significand_of(field: u32, fraction: Significand) -> Significand
     requires { fraction < 2 ^ 52 }
@@ -45,7 +38,7 @@ fn significand_of(field: u32, fraction: Significand) -> Significand
     if field == 0 { fraction } else { leading }
 }
 
-// The number that a finite pattern stands for.
+// The number that a finite pattern stands for. The fields 0 and 1 both stand for the lowest place.
 fn read_finite(pattern: u64) -> Number
     requires { finite 11 52 pattern ≡ true }
     ensures { result ≡ number_read 11 52 pattern }
@@ -53,17 +46,18 @@ fn read_finite(pattern: u64) -> Number
     let field = field_of(pattern);
     let significand = significand_of(field, pattern % 4503599627370496);
     let negative = 9223372036854775808 <= pattern;
-    number_at(prepared_binary64(), negative, significand, place_of(field))
+    let place = field.saturating_sub(1);
+    number_at(prepared_binary64(), negative, significand, place)
 }
 
 // The number that a pattern stands for. Refuses 9.
-pub fn read_binary64(pattern: u64) -> NumberAnswer
-    ensures { number_given result ≡ binary64_read pattern }
+pub fn read_binary64(pattern: u64) -> Result<Number, Refusal>
+    ensures { given result ≡ binary64_read pattern }
 {
     if !is_finite(pattern) {
-        return NumberAnswer::Refused(Refusal::NotFinite);
+        return Err(Refusal::NotFinite);
     }
-    NumberAnswer::Value(read_finite(pattern))
+    Ok(read_finite(pattern))
 }
 
 // The sign bit, the highest.
@@ -83,11 +77,9 @@ fn pattern_of(x: Number) -> u64
 }
 
 // The pattern of a number. Refuses 3.
-pub fn write_binary64(x: Number) -> Pattern64Answer
-    ensures { pattern64_given result ≡ binary64_written x }
+pub fn write_binary64(x: Number) -> Result<u64, Refusal>
+    ensures { given result ≡ binary64_written x }
 {
-    match with_number(Preparation::Ready(prepared_binary64()), x) {
-        Preparation::Refused(why) => Pattern64Answer::Refused(why),
-        Preparation::Ready(_) => Pattern64Answer::Written(pattern_of(x)),
-    }
+    with_number(prepared_binary64(), x)?;
+    Ok(pattern_of(x))
 }

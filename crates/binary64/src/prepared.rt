@@ -5,7 +5,7 @@ ghost use Rattle.format.specs.Published.{binary64};
 
 use format::{Format, Prepared, Scale};
 
-// The constants that `format::admission::prepare` works out of binary64.
+// The constants that `format::admission::prepare` works out of binary64: no other format has any of them.
 pub fn prepared_binary64() -> Prepared
     ensures { result ≡ prepared_of binary64 }
 {
@@ -22,8 +22,8 @@ pub fn prepared_binary64() -> Prepared
         bound: 9007199254740992,
     };
     Prepared {
-        format: format,
-        scale: scale,
+        format,
+        scale,
         highest: 2045,
     }
 }

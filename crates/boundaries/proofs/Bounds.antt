@@ -1,6 +1,7 @@
 -- From a running sum on: the last x and all y, added up exactly, are no farther from x and the strips than the sum of |x| after
 -- each step divided by 2 ^ 47, in directions 0 and 1 not at all, and a step that is missing was too large. It follows from demand 3
 -- at each step (StepLaws).
+use Rattle.std.specs.Prelude.{Option}
 use Rattle.theory.proofs.Prelude.{ℕ, ◌≤◌, ◌<◌, ◌+◌, ◌^◌, ◌*◌, suc, true, [], ◌∷◌, List, ◌≡◌, refl, arith, ◌+ℤ◌, nat_abs, ◌-ℤ◌, length, get_or}
 use Rattle.theory.specs.Lists.{all}
 use Rattle.theory.specs.declared.Direction.{Direction}
@@ -10,7 +11,6 @@ use Rattle.fast_two_sum.proofs.Bounds.{none}
 use Rattle.binary32.specs.Patterns.{finite, pattern_value}
 pub use Rattle.boundaries.specs.Outcomes.{AllFinite}
 use Rattle.boundaries.specs.declared.Step.{Step}
-use Rattle.boundaries.specs.declared.StepAnswer.{StepAnswer}
 use Rattle.boundaries.specs.Sums.{strip_added, and_on, steps_from, last_x, rests_of}
 use Rattle.boundaries.specs.Totals.{total_of, sizes_of, finite_step}
 use Rattle.boundaries.proofs.Distances.{along}
@@ -61,7 +61,7 @@ unfolding steps_from
 from d [] f x i = ended d x
 from d (s ∷ strips) f x i = by (from d strips (λ k l. f (suc k) (omega arith))) (strip_added d x s) (outcome d x s i (f 0 (omega arith)))
   where
-    by : ((x : ℕ) → finite x ≡ true → From d x strips (steps_from d x strips)) → (p : StepAnswer) → Outcome d x s p
+    by : ((x : ℕ) → finite x ≡ true → From d x strips (steps_from d x strips)) → (p : Option Step) → Outcome d x s p
         → From d x (s ∷ strips) (and_on p (λ t. t ∷ steps_from d t.x strips))
     by others p (added {t = t} g) = before d x s strips t (steps_from d t.x strips) g (others t.x g.x_finite)
     by others p (too_large e h) = stopped d x s strips h

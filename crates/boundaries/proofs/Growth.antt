@@ -1,5 +1,6 @@
 -- Small strips: the sum of i of them has a magnitude of at most i times 2 ^ 264, a number of the format for i up to 4,096, so that no
 -- rounding takes it beyond that.
+use Rattle.std.specs.Prelude.{Option}
 use Rattle.theory.proofs.Prelude.{ℕ, ◌≤◌, ◌<◌, ◌+◌, ◌^◌, ◌*◌, suc, ◌%◌, true, [], ◌∷◌, List, ap, ◌≡◌, sym, refl, mul-le-mul_right, le_trans, le_of_eq, arith, ℤ, nat_abs, length, leb-true, ltb-true}
 use Rattle.theory.specs.Lists.{all}
 use Rattle.theory.specs.declared.Direction.{Direction}
@@ -17,7 +18,7 @@ use Rattle.binary32.specs.Patterns.{finite, magnitude_read, pattern_value}
 use Rattle.binary32.proofs.Fields.{binary32_limits}
 use Rattle.binary32.proofs.PatternOrder.{magnitude_most}
 use Rattle.binary32.proofs.PatternValues.{value_size}
-use Rattle.boundaries.specs.declared.StepAnswer.{StepAnswer}
+use Rattle.boundaries.specs.declared.Step.{Step}
 use Rattle.boundaries.specs.Sums.{strip_added, and_on, steps_from, boundary_steps}
 use Rattle.boundaries.specs.Steps.{small_strip}
 use Rattle.boundaries.proofs.Distances.{size_added}
@@ -72,7 +73,7 @@ all_added d (s ∷ strips) f h i x l j k =
     by (all_added d strips (λ k l. f (suc k) (omega arith)) (and_right _ _ h) (suc i)) (sum_upto d i x s (omega arith) k (and_left _ _ h)) (sum_small d i x s (omega arith) k (and_left _ _ h)) (strip_added d x s) (outcome d x s j (f 0 (omega arith)))
   where
     by : ((x : ℕ) → suc i + length strips ≤ 4096 → finite x ≡ true → nat_abs (pattern_value x) ≤ suc i * top → length (steps_from d x strips) ≡ length strips)
-        → nat_abs (round_z 2 24 d (pair_sum x s) 1) ≤ suc i * top → suc i * top ≤ greatest binary32 → (p : StepAnswer) → Outcome d x s p
+        → nat_abs (round_z 2 24 d (pair_sum x s) 1) ≤ suc i * top → suc i * top ≤ greatest binary32 → (p : Option Step) → Outcome d x s p
         → length (and_on p (λ t. t ∷ steps_from d t.x strips)) ≡ suc (length strips)
     by others m r p (added {t = t} g) = ap suc (others t.x (omega arith) g.x_finite (le_trans (le_of_eq (ap nat_abs g.x_is)) m))
     by others m r p (too_large e b) = absurd (omega (arith, m, r, b))

@@ -1,12 +1,11 @@
 -- The passes over the strips, one strip more: what was done and what is left are the whole.
+use Rattle.std.specs.Prelude.{Option, Some, None}
 use Rattle.theory.proofs.Prelude.{ℕ, ◌≤◌, ◌<◌, ◌+◌, suc, [], ◌∷◌, List, ◌++◌, append-nil, append_assoc, ◌∙◌, ap, ◌≡◌, sym, refl, add-one, arith, length, get_or, drop, take, set, drop-cons, drop-length, take_all}
 use native.Mathlib.Numerals.{one-add}
 use lib.ListN.{length-take}
 use lib.Seq.{take-suc-set}
 use Rattle.theory.specs.declared.Direction.{Direction}
 use Rattle.boundaries.specs.declared.Step.{Step}
-use Rattle.boundaries.specs.declared.StepAnswer.{StepAnswer}
-use Rattle.boundaries.specs.declared.StepAnswer.TheVariants as step
 use Rattle.boundaries.specs.Sums.{strip_added, and_on, steps_from, boundary_steps, last_x, rests_of, first_of}
 
 drop_end : (i : ℕ) (strips : List ℕ) → i ≡ length strips → drop i strips ≡ []
@@ -18,11 +17,11 @@ module _ (d : Direction) (x i : ℕ) (strips : List ℕ) (h : i < length strips)
   unfolding steps_from
   steps_here = rw (add-one, drop-cons strips i 0)
 
-  steps_added : {t : Step} → strip_added d x (get_or strips i 0) ≡ step.Added t → steps_from d x (drop i strips) ≡ t ∷ steps_from d t.x (drop (i + 1) strips)
-  steps_added e = steps_here ∙ ap (λ (p : StepAnswer). and_on p (λ t. t ∷ steps_from d t.x (drop (i + 1) strips))) e
+  steps_added : {t : Step} → strip_added d x (get_or strips i 0) ≡ Some t → steps_from d x (drop i strips) ≡ t ∷ steps_from d t.x (drop (i + 1) strips)
+  steps_added e = steps_here ∙ ap (λ (p : Option Step). and_on p (λ t. t ∷ steps_from d t.x (drop (i + 1) strips))) e
 
-  steps_large : strip_added d x (get_or strips i 0) ≡ step.TooLarge → steps_from d x (drop i strips) ≡ []
-  steps_large e = steps_here ∙ ap (λ (p : StepAnswer). and_on p (λ t. t ∷ steps_from d t.x (drop (i + 1) strips))) e
+  steps_large : strip_added d x (get_or strips i 0) ≡ None → steps_from d x (drop i strips) ≡ []
+  steps_large e = steps_here ∙ ap (λ (p : Option Step). and_on p (λ t. t ∷ steps_from d t.x (drop (i + 1) strips))) e
 
 steps_end : (d : Direction) (x i : ℕ) (strips : List ℕ) → i ≡ length strips → steps_from d x (drop i strips) ≡ []
 unfolding steps_from
@@ -38,14 +37,14 @@ pub count_begin : (d : Direction) (strips : List ℕ) → 1 ≤ length strips �
 count_begin d strips h = rw (steps_begin d strips h, one-add)
 
 module _ (d : Direction) (x i : ℕ) (strips : List ℕ) (h : i < length strips) where
-  pub count_goes_on : {t : Step} {n : ℕ} → strip_added d x (get_or strips i 0) ≡ step.Added t → t.x ≡ n
+  pub count_goes_on : {t : Step} {n : ℕ} → strip_added d x (get_or strips i 0) ≡ Some t → t.x ≡ n
       → i + length (steps_from d x (drop i strips)) ≡ i + 1 + length (steps_from d n (drop (i + 1) strips))
   count_goes_on e k =
       ap (λ (ts : List Step). i + length ts) (steps_added d x i strips h e)
       ∙ ap (λ (m : ℕ). i + suc (length (steps_from d m (drop (i + 1) strips)))) k
       ∙ omega arith
 
-  pub count_stops : strip_added d x (get_or strips i 0) ≡ step.TooLarge → i + length (steps_from d x (drop i strips)) ≡ i
+  pub count_stops : strip_added d x (get_or strips i 0) ≡ None → i + length (steps_from d x (drop i strips)) ≡ i
   count_stops e = ap (λ (ts : List Step). i + length ts) (steps_large d x i strips h e) ∙ omega arith
 
 pub count_ends : (d : Direction) (x i : ℕ) (strips : List ℕ) → i ≡ length strips → i + length (steps_from d x (drop i strips)) ≡ i
@@ -58,7 +57,7 @@ unfolding first_of boundary_steps
 last_begin d [] h = absurd (omega arith)
 last_begin d (s ∷ strips) h = refl
 
-pub last_goes_on : (d : Direction) (x i : ℕ) (strips : List ℕ) → i < length strips → {t : Step} → strip_added d x (get_or strips i 0) ≡ step.Added t
+pub last_goes_on : (d : Direction) (x i : ℕ) (strips : List ℕ) → i < length strips → {t : Step} → strip_added d x (get_or strips i 0) ≡ Some t
     → last_x t.x (steps_from d t.x (drop (i + 1) strips)) ≡ last_x x (steps_from d x (drop i strips))
 unfolding last_x
 last_goes_on d x i strips h e = sym (ap (last_x x) (steps_added d x i strips h e))
@@ -86,7 +85,7 @@ module _ (d : Direction) (x i : ℕ) (strips rests : List ℕ) (h : i < length r
   inside : i + 1 < length strips
   inside = omega arith
 
-  pub rest_written : {t : Step} → strip_added d x (get_or strips (i + 1) 0) ≡ step.Added t
+  pub rest_written : {t : Step} → strip_added d x (get_or strips (i + 1) 0) ≡ Some t
       → rests_left d t.x (i + 1) strips (set rests i t.y) ≡ rests_left d x i strips rests
   unfolding rests_of
   rest_written {t} k =
@@ -95,7 +94,7 @@ module _ (d : Direction) (x i : ℕ) (strips rests : List ℕ) (h : i < length r
       ∙ sym (ap (λ (ts : List Step). take i rests ++ rests_of ts) (steps_added d x (i + 1) strips inside k))
 
   -- a step that is too large leaves too few
-  pub rest_missing : strip_added d x (get_or strips (i + 1) 0) ≡ step.TooLarge → length (rests_left d x i strips rests) < length rests
+  pub rest_missing : strip_added d x (get_or strips (i + 1) 0) ≡ None → length (rests_left d x i strips rests) < length rests
   unfolding rests_of
   rest_missing k = rw (steps_large d x (i + 1) strips inside k, append-nil) (omega (arith, length-take i rests))
 

@@ -1,6 +1,7 @@
 -- What one step of a boundary's sum gives: demand 3 on two finite patterns. Only the first of its three steps may be too large.
-use Rattle.theory.proofs.Prelude.{ℕ, ◌≤◌, ◌<◌, ◌^◌, ◌*◌, true, false, Bool, cond, [], ◌∷◌, ◌∙◌, ap, ◌≡◌, sym, refl, ap₂, subst, dec_le, arith, leb, ℤ, ◌+ℤ◌, nat_abs, ◌-ℤ◌, +ℤ_comm, le-leb, leb-true, lt-leb, leb-false}
-use native.Mathlib.Nat.{le_of_lt}
+use Rattle.std.specs.Prelude.{Option, Some, None}
+use Rattle.std.specs.declared.cmp.Ordering.TheVariants.{Less}
+use Rattle.theory.proofs.Prelude.{ℕ, ◌≤◌, ◌<◌, ◌^◌, ◌*◌, true, false, Bool, cond, [], ◌∷◌, ◌∙◌, ap, ◌≡◌, sym, refl, ap₂, subst, dec_le, arith, leb, ℤ, ◌+ℤ◌, nat_abs, ◌-ℤ◌, +ℤ_comm, le-leb, leb-true, lt-leb, leb-false, lt-ltb}
 use Rattle.theory.specs.declared.Direction.{Direction}
 use Rattle.theory.specs.Lists.{all}
 use Rattle.theory.specs.Signed.{round_z}
@@ -12,10 +13,9 @@ use Rattle.format.specs.Directions.{is_direction, direction}
 use Rattle.format.specs.Published.{binary32}
 use Rattle.format.proofs.GivenLaws.{gives_same, gives_not_refused}
 use Rattle.number.specs.declared.Number.{Number}
-use Rattle.number.specs.declared.Ordering.TheVariants.{Less, Equal, Greater}
 use Rattle.number.specs.Numbers.{member, magnitude, value}
 use Rattle.number.specs.Order.{order_n}
-use Rattle.number.proofs.Comparison.{size_less_says, size_equal_says, size_greater_says}
+use Rattle.number.proofs.Comparison.{size_less_says}
 use Rattle.arithmetic.specs.Operations.{rounded_sum}
 use Rattle.arithmetic.proofs.Algebra.{sum_swap}
 use Rattle.fast_two_sum.specs.declared.Steps.{Steps}
@@ -31,8 +31,6 @@ use Rattle.binary32.proofs.RoundTrips.{Reads, reads, read_made, read_member, wri
 use Rattle.binary32.proofs.PatternValues.{read_is_value}
 pub use Rattle.boundaries.specs.Outcomes.{TooMuch, pair_sum}
 use Rattle.boundaries.specs.declared.Step.{Step}
-use Rattle.boundaries.specs.declared.StepAnswer.{StepAnswer}
-use Rattle.boundaries.specs.declared.StepAnswer.TheVariants as step
 use Rattle.boundaries.specs.Sums.{three_sum, step_written, strip_added}
 use Rattle.boundaries.specs.Steps.{first_step}
 
@@ -91,16 +89,21 @@ module _ (d : Direction) (x s : Number) where
             (subst (steps_outcome d (rounded_sum binary32 d s x) (value binary32 s +ℤ value binary32 x)) (order_second (omega arith))
             (in_order d (record { base = refl; digits = omega arith; a_number = j; b_number = i; order = omega arith }))))
 
+not_less_says : {m n : ℕ} → (order_n m n ≡ Less → ⊥) → n ≤ m
+unfolding order_n
+not_less_says {m} {n} h = by (dec_le n m)
+  where
+    by : Dec (n ≤ m) → n ≤ m
+    by (yes l) = l
+    by (no l) = absurd (h (rw (lt-ltb m n (omega arith))))
+
 -- the code compares in a format that is binary32
 module _ (d : Direction) (x s : Number) {f : Format} (e : f ≡ binary32) where
   pub less_turned : order_n (magnitude f x) (magnitude f s) ≡ Less → three_steps f d d d s x ≡ three_sum d x s
   less_turned h = rw e (order_second d x s (size_less_says (rw e at h)))
 
-  pub equal_kept : order_n (magnitude f x) (magnitude f s) ≡ Equal → three_steps f d d d x s ≡ three_sum d x s
-  equal_kept h = rw e (order_first d x s (size_equal_says (rw e at h)))
-
-  pub greater_kept : order_n (magnitude f x) (magnitude f s) ≡ Greater → three_steps f d d d x s ≡ three_sum d x s
-  greater_kept h = rw e (order_first d x s (le_of_lt (size_greater_says (rw e at h))))
+  pub others_kept : (order_n (magnitude f x) (magnitude f s) ≡ Less → ⊥) → three_steps f d d d x s ≡ three_sum d x s
+  others_kept h = rw e (order_first d x s (not_less_says (rw e at h)))
 
 three_times : (d : ℕ) → is_direction d ≡ true → all is_direction (d ∷ d ∷ d ∷ []) ≡ true
 unfolding all
@@ -150,9 +153,9 @@ pub record Stepped (d : Direction) (x s : ℕ) (t : Step) : Type 0 where
   pub exact : Nearest d → off_by x s t ≡ 0
 
 -- a step of two finite patterns is added, or its first sum is too large
-pub data Outcome (d : Direction) (x s : ℕ) : StepAnswer → Type 0 where
-  added : {t : Step} → Stepped d x s t → Outcome d x s (step.Added t)
-  too_large : first_step d x s ≡ refused 5 → TooMuch d (pair_sum x s) → Outcome d x s step.TooLarge
+pub data Outcome (d : Direction) (x s : ℕ) : Option Step → Type 0 where
+  added : {t : Step} → Stepped d x s t → Outcome d x s (Some t)
+  too_large : first_step d x s ≡ refused 5 → TooMuch d (pair_sum x s) → Outcome d x s None
 
 module _ (d : Direction) (x s : ℕ) (i : finite x ≡ true) (j : finite s ≡ true) where
   same_sum : value binary32 (number_read x) +ℤ value binary32 (number_read s) ≡ pair_sum x s
@@ -209,26 +212,26 @@ first_written d x s k i j e = rw (e, k, i, j)
 
 -- ---- what follows from one step's answer
 module _ (d : Direction) (x s : ℕ) (i : finite x ≡ true) (j : finite s ≡ true) where
-  pub added_finite : {t : Step} → strip_added d x s ≡ step.Added t → finite t.x ≡ true
+  pub added_finite : {t : Step} → strip_added d x s ≡ Some t → finite t.x ≡ true
   added_finite {t} e = by (strip_added d x s) (outcome d x s i j) e
     where
-      by : (p : StepAnswer) → Outcome d x s p → p ≡ step.Added t → finite t.x ≡ true
+      by : (p : Option Step) → Outcome d x s p → p ≡ Some t → finite t.x ≡ true
       by p (added {t = u} g) e = let same : u ≡ t = cc in subst (λ (u : Step). finite u.x ≡ true) same g.x_finite
       by p (too_large e l) k = absurd (let o : ◌≡◌ {A = ℕ} 0 1 = cc in omega arith)
 
   -- the first step's x is that of the step
-  pub first_added : {n : ℕ} → first_step d x s ≡ gives n → (t : Step) × (strip_added d x s ≡ step.Added t) × (t.x ≡ n) × (finite n ≡ true)
+  pub first_added : {n : ℕ} → first_step d x s ≡ gives n → (t : Step) × (strip_added d x s ≡ Some t) × (t.x ≡ n) × (finite n ≡ true)
   first_added {n} e = by (strip_added d x s) refl (outcome d x s i j)
     where
-      by : (p : StepAnswer) → strip_added d x s ≡ p → Outcome d x s p → (t : Step) × (strip_added d x s ≡ step.Added t) × (t.x ≡ n) × (finite n ≡ true)
+      by : (p : Option Step) → strip_added d x s ≡ p → Outcome d x s p → (t : Step) × (strip_added d x s ≡ Some t) × (t.x ≡ n) × (finite n ≡ true)
       by p k (added {t} g) =
           let same : t.x ≡ n = gives_same (sym g.first ∙ e) in
           (t, k, same, subst (λ (u : ℕ). finite u ≡ true) same g.x_finite)
       by p k (too_large f l) = absurd (gives_not_refused (sym e ∙ f))
 
-  pub first_refused_law : {k : ℕ} → first_step d x s ≡ refused k → strip_added d x s ≡ step.TooLarge
+  pub first_refused_law : {k : ℕ} → first_step d x s ≡ refused k → strip_added d x s ≡ None
   first_refused_law e = by (strip_added d x s) (outcome d x s i j)
     where
-      by : (p : StepAnswer) → Outcome d x s p → p ≡ step.TooLarge
+      by : (p : Option Step) → Outcome d x s p → p ≡ None
       by p (added {t} g) = absurd (gives_not_refused (sym g.first ∙ e))
       by p (too_large f l) = refl

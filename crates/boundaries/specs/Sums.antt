@@ -1,10 +1,9 @@
 -- The strips of a boundary summed from the first on. The running sum and the rests are binary32 patterns.
-use Rattle.std.specs.Prelude.{ℕ, suc, cond, List, [], ◌∷◌, leb, eqb, length}
+use Rattle.std.specs.Prelude.{ℕ, suc, cond, Option, Some, None, List, [], ◌∷◌, leb, eqb, length}
 use Rattle.theory.specs.Tests.{◌and◌, unless}
 use Rattle.theory.specs.Lists.{first_where, none}
 use Rattle.theory.specs.declared.Direction.{Direction}
 use Rattle.format.specs.Given.{Given, gives, refused, refused_at}
-use Rattle.format.specs.Refusals.{refusal_number}
 use Rattle.format.specs.Directions.{is_direction, direction}
 use Rattle.format.specs.Published.{binary32}
 use Rattle.number.specs.declared.Number.{Number}
@@ -13,16 +12,6 @@ use Rattle.fast_two_sum.specs.declared.Steps.{Steps}
 use Rattle.fast_two_sum.specs.Calls.{three_steps}
 use Rattle.binary32.specs.Patterns.{not_finite, number_read, pattern_of}
 use Rattle.boundaries.specs.declared.Step.{Step}
-use Rattle.boundaries.specs.declared.StepAnswer.{StepAnswer}
-use Rattle.boundaries.specs.declared.StepAnswer.TheVariants as step
-use Rattle.boundaries.specs.declared.BoundaryAnswer.{BoundaryAnswer}
-use Rattle.boundaries.specs.declared.BoundaryAnswer.TheVariants as answer
-
--- what an answer gives, in the papers' numbers
-abbrev pub boundary_given : BoundaryAnswer → Given ℕ
-boundary_given (answer.Sum sum) = gives sum
-boundary_given (answer.Refused why) = refused (refusal_number why)
-boundary_given (answer.RefusedAt why index) = refused_at (refusal_number why) index
 
 -- ---- one step
 -- the three-step sum of x and s with the larger magnitude first, x first at equality, in one direction
@@ -30,20 +19,20 @@ unfoldable pub three_sum : Direction → (x s : Number) → Given Steps
 three_sum d x s = cond (leb (magnitude binary32 s) (magnitude binary32 x)) (three_steps binary32 d d d x s) (three_steps binary32 d d d s x)
 
 -- x and y written as patterns
-abbrev pub step_written : Given Steps → StepAnswer
-step_written (gives t) = step.Added (record { x = pattern_of t.x; y = pattern_of t.y })
-step_written (refused number) = step.TooLarge
-step_written (refused_at number index) = step.TooLarge
+abbrev pub step_written : Given Steps → Option Step
+step_written (gives t) = Some (record { x = pattern_of t.x; y = pattern_of t.y })
+step_written (refused number) = None
+step_written (refused_at number index) = None
 
 -- the strip s added to the running sum x
-unfoldable pub strip_added : Direction → (x s : ℕ) → StepAnswer
+unfoldable pub strip_added : Direction → (x s : ℕ) → Option Step
 strip_added d x s = step_written (three_sum d (number_read x) (number_read s))
 
 -- ---- all steps
 -- what comes after a step; nothing after one that is too large
-abbrev pub and_on : StepAnswer → (Step → List Step) → List Step
-and_on (step.Added t) next = next t
-and_on step.TooLarge next = []
+abbrev pub and_on : Option Step → (Step → List Step) → List Step
+and_on (Some t) next = next t
+and_on None next = []
 
 -- x and y of each step from the running sum x on, until one is too large
 unfoldable pub steps_from : Direction → (x : ℕ) (strips : List ℕ) → List Step

@@ -12,12 +12,5 @@ fn is_small(pattern: u32) -> bool
 pub fn are_small(strips: &[u32]) -> bool
     ensures { result ≡ all small_strip strips.now }
 {
-    let mut i = 0;
-    while i < strips.len() {
-        if !is_small(strips[i]) {
-            return false;
-        }
-        i += 1;
-    }
-    true
+    strips.iter().all(|&p| is_small(p))
 }

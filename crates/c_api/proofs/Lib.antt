@@ -1,2 +1,3 @@
--- Laws of the signs that C hands over; the exports need no other.
+-- Laws of the signs and of the indices that C is handed.
 pub mod SignLaws
+pub mod IndexLaws

@@ -1,14 +1,14 @@
 -- What is given, as C sees it: the refusal's number, 0 for none, and the values; at a refusal numbers in no format, and zero for the others.
 -- And a number as C hands it over.
 use Rattle.std.specs.Prelude.{ℕ, ◌*◌, ◌-◌, ◌^◌, ◌<◌, ◌≡◌, Bool, cond, [], ◌∷◌, leb, eqb, ℤ, pos, negsuc}
+use Rattle.std.specs.declared.cmp.Ordering.{Ordering}
+use Rattle.std.specs.declared.cmp.Ordering.TheVariants.{Less, Equal, Greater}
 use Rattle.theory.specs.declared.Mark.{Mark}
 use Rattle.theory.specs.declared.Mark.TheVariants.{Exact, Low, High}
 use Rattle.format.specs.declared.Format.{Format}
 use Rattle.format.specs.Directions.{direction}
 use Rattle.format.specs.Given.{Given, gives, refused, refused_at}
 use Rattle.number.specs.declared.Number.{Number}
-use Rattle.number.specs.declared.Ordering.{Ordering}
-use Rattle.number.specs.declared.Ordering.TheVariants.{Less, Equal, Greater}
 use Rattle.number.specs.Checks.{checked}
 use Rattle.arithmetic.specs.declared.Rounded.{Rounded}
 use Rattle.arithmetic.specs.declared.CountedQuotient.{CountedQuotient}

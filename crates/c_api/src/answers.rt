@@ -1,28 +1,17 @@
 // The engine's answers as C sees them, and its numbers as C hands them over. An answer is a struct whose first field is the refusal's
-// number, 0 for none; at a refusal its numbers are in no format, and its other fields are zero. A verdict or a pattern is a number.
+// number, 0 for none; at a refusal its numbers are in no format, and its other fields are zero. A verdict or a pattern is a number. Each
+// answer has a function of its own: a From could make the structs, but not the numbers, and could not ask for an index of 32 bits.
 ghost use Rattle.std.specs.Prelude.{◌≡◌};
-ghost use Rattle.format.specs.Given.{verdict_given, format_given};
-ghost use Rattle.number.specs.Answers.{number_given, order_given, check_given, pattern_given};
-ghost use Rattle.arithmetic.specs.Marked.{rounded_given};
-ghost use Rattle.arithmetic.specs.Quotients.{quotient_given};
-ghost use Rattle.fast_two_sum.specs.Answers.{steps_given};
-ghost use Rattle.binary32_arithmetic.specs.Slices.{slices_given};
-ghost use Rattle.binary64.specs.Patterns.{pattern64_given};
-ghost use Rattle.saved_lines.specs.Lines.{line_given};
-ghost use Rattle.receivers.specs.Answers.{calmer_given};
-ghost use Rattle.boundaries.specs.Sums as sums;
+ghost use Rattle.format.specs.Given.{given, given_at};
+ghost use Rattle.receivers.specs.Answers.{log_number, calmer_given};
 ghost use Rattle.c_api.specs.Answers.{refusal_out, number_in, number_for, number_out, mark_number, rounded_out, quotient_out, order_number, order_out, published_out, triple_out, check_out, pattern_out, pattern64_out, slices_out, count_out, stretch_out, SmallIndex};
 
-use arithmetic::{QuotientAnswer, RoundedAnswer};
-use binary32_arithmetic::SliceAnswer;
-use binary64::Pattern64Answer;
-use boundaries::BoundaryAnswer;
-use fast_two_sum::StepsAnswer;
-use format::refusals::refusal_number;
-use format::{Format, FormatAnswer, Significand, Verdict};
-use number::{CheckAnswer, Number, NumberAnswer, OrderAnswer, Ordering, PatternAnswer};
-use receivers::Calmer;
-use saved_lines::LineAnswer;
+use arithmetic::{CountedQuotient, Rounded};
+use fast_two_sum::Steps;
+use format::{Format, ListRefusal, Refusal, Significand};
+use number::Number;
+use receivers::Log;
+use std::cmp::Ordering;
 use theory::Mark;
 
 // A number: the sign is 0 for plus, 1 for minus. The order of the fields leaves no gap, so that a number is two registers.
@@ -130,7 +119,7 @@ pub struct StretchOut {
 }
 
 // A significand of no admitted format, where base^digits is at most 2^63.
-const NO_SIGNIFICAND: Significand = 18446744073709551615;
+const NO_SIGNIFICAND: Significand = Significand::MAX;
 
 // What stands for the number of a refused answer: every call that is handed it refuses it by 3, but a conversion, which takes any number.
 const NO_NUMBER: CNumber = CNumber {
@@ -139,103 +128,109 @@ const NO_NUMBER: CNumber = CNumber {
     negative: 0,
 };
 
+// What stands for the format of a refused answer: none that is admitted.
+const NO_FORMAT: Format = Format {
+    base: 0,
+    digits: 0,
+    emin: 0,
+    emax: 0,
+};
+
 // The number that C means. A sign that is neither 0 nor 1 makes one that is in no format.
-pub fn number_in(x: CNumber) -> Number
-    ensures { result ≡ number_in x }
-{
-    let e = x.exponent;
-    let given = x.significand;
-    let significand = if x.negative <= 1 {
-        given
-    } else {
-        NO_SIGNIFICAND
-    };
-    Number {
-        negative: x.negative == 1,
-        significand: significand,
-        exponent: e,
+impl From<CNumber> for Number {
+    ghost from_gives = { λ x number. number ≡ number_in x };
+
+    fn from(x: CNumber) -> Number {
+        let e = x.exponent;
+        let given = x.significand;
+        let significand = if x.negative <= 1 {
+            given
+        } else {
+            NO_SIGNIFICAND
+        };
+        Number {
+            negative: x.negative == 1,
+            significand,
+            exponent: e,
+        }
     }
 }
 
 // A number for C, field by field: copied whole it would be read back in other pieces than it was stored in, which costs time.
-fn number_for(x: Number) -> CNumber
-    ensures { result ≡ number_for x }
-{
-    let negative = if x.negative { 1 } else { 0 };
-    CNumber {
-        significand: x.significand,
-        exponent: x.exponent,
-        negative: negative,
+impl From<Number> for CNumber {
+    ghost from_gives = { λ x number. number ≡ number_for x };
+
+    fn from(x: Number) -> CNumber {
+        let negative = u32::from(x.negative);
+        CNumber {
+            significand: x.significand,
+            exponent: x.exponent,
+            negative,
+        }
     }
 }
 
-pub fn number_out(answer: NumberAnswer) -> NumberOut
-    ensures { result ≡ number_out (number_given answer) }
+pub fn number_out(answer: Result<Number, Refusal>) -> NumberOut
+    ensures { result ≡ number_out (given answer) }
 {
     match answer {
-        NumberAnswer::Value(x) => {
-            let number = number_for(x);
-            NumberOut {
-                refusal: 0,
-                number: number,
-            }
+        Ok(x) => {
+            let number = x.into();
+            NumberOut { refusal: 0, number }
         }
-        NumberAnswer::Refused(why) => NumberOut {
-            refusal: refusal_number(why),
+        Err(why) => NumberOut {
+            refusal: why.into(),
             number: NO_NUMBER,
         },
     }
 }
 
+// Marks have the numbers of their order.
 fn mark_number(mark: Mark) -> u32
     ensures { result ≡ mark_number mark }
 {
-    match mark {
-        Mark::Exact => 0,
-        Mark::Low => 1,
-        Mark::High => 2,
-    }
+    mark as u32
 }
 
-pub fn rounded_out(answer: RoundedAnswer) -> RoundedOut
-    ensures { result ≡ rounded_out (rounded_given answer) }
+pub fn rounded_out(answer: Result<Rounded, Refusal>) -> RoundedOut
+    ensures { result ≡ rounded_out (given answer) }
 {
     match answer {
-        RoundedAnswer::Value(rounded) => {
+        Ok(rounded) => {
             let kept = rounded.number;
             let mark = rounded.mark;
-            let number = number_for(kept);
+            let number = kept.into();
             RoundedOut {
                 refusal: 0,
                 mark: mark_number(mark),
-                number: number,
+                number,
             }
         }
-        RoundedAnswer::Refused(why) => RoundedOut {
-            refusal: refusal_number(why),
+        Err(why) => RoundedOut {
+            refusal: why.into(),
             mark: 0,
             number: NO_NUMBER,
         },
     }
 }
 
-pub fn quotient_out(answer: QuotientAnswer) -> QuotientOut
-    ensures { result ≡ quotient_out (quotient_given answer) }
+pub fn quotient_out(answer: Result<CountedQuotient, Refusal>) -> QuotientOut
+    ensures { result ≡ quotient_out (given answer) }
 {
     match answer {
-        QuotientAnswer::Value(quotient) => {
+        Ok(quotient) => {
             let kept = quotient.number;
             let mark = quotient.mark;
-            let number = number_for(kept);
+            let number = kept.into();
             QuotientOut {
                 refusal: 0,
                 mark: mark_number(mark),
                 digits: quotient.digits,
-                number: number,
+                number,
             }
         }
-        QuotientAnswer::Refused(why) => QuotientOut {
-            refusal: refusal_number(why),
+        Err(why) => QuotientOut {
+            refusal: why.into(),
             mark: 0,
             digits: 0,
             number: NO_NUMBER,
@@ -243,26 +238,26 @@ pub fn quotient_out(answer: QuotientAnswer) -> QuotientOut
     }
 }
 
-pub fn triple_out(answer: StepsAnswer) -> TripleOut
-    ensures { result ≡ triple_out (steps_given answer) }
+pub fn triple_out(answer: Result<Steps, Refusal>) -> TripleOut
+    ensures { result ≡ triple_out (given answer) }
 {
     match answer {
-        StepsAnswer::Triple(steps) => {
+        Ok(steps) => {
             let first = steps.x;
             let second = steps.z;
             let third = steps.y;
-            let x = number_for(first);
-            let z = number_for(second);
-            let y = number_for(third);
+            let x = first.into();
+            let z = second.into();
+            let y = third.into();
             TripleOut {
                 refusal: 0,
-                x: x,
-                z: z,
-                y: y,
+                x,
+                z,
+                y,
             }
         }
-        StepsAnswer::Refused(why) => TripleOut {
-            refusal: refusal_number(why),
+        Err(why) => TripleOut {
+            refusal: why.into(),
             x: NO_NUMBER,
             z: NO_NUMBER,
             y: NO_NUMBER,
@@ -270,201 +265,169 @@ pub fn triple_out(answer: StepsAnswer) -> TripleOut
     }
 }
 
-pub fn verdict_out(verdict: Verdict) -> u32
-    ensures { result ≡ refusal_out (verdict_given verdict) }
+pub fn verdict_out(verdict: Result<(), Refusal>) -> u32
+    ensures { result ≡ refusal_out (given verdict) }
 {
     match verdict {
-        Verdict::Passed => 0,
-        Verdict::Refused(why) => refusal_number(why),
+        Ok(()) => 0,
+        Err(why) => why.into(),
     }
 }
 
+// Orders have the numbers -1, 0 and 1.
 fn order_number(order: Ordering) -> i32
     ensures { result ≡ order_number order }
 {
-    match order {
-        Ordering::Less => -1,
-        Ordering::Equal => 0,
-        Ordering::Greater => 1,
-    }
+    order as i32
 }
 
-pub fn order_out(answer: OrderAnswer) -> OrderOut
-    ensures { result ≡ order_out (order_given answer) }
+pub fn order_out(answer: Result<Ordering, Refusal>) -> OrderOut
+    ensures { result ≡ order_out (given answer) }
 {
     match answer {
-        OrderAnswer::Ordered(order) => OrderOut {
+        Ok(order) => OrderOut {
             refusal: 0,
             order: order_number(order),
         },
-        OrderAnswer::Refused(why) => OrderOut {
-            refusal: refusal_number(why),
+        Err(why) => OrderOut {
+            refusal: why.into(),
             order: 0,
         },
     }
 }
 
-pub fn published_out(answer: FormatAnswer) -> PublishedOut
-    ensures { result ≡ published_out (format_given answer) }
+pub fn published_out(answer: Result<Format, Refusal>) -> PublishedOut
+    ensures { result ≡ published_out (given answer) }
 {
     match answer {
-        FormatAnswer::Found(f) => PublishedOut {
-            refusal: 0,
-            format: f,
+        Ok(format) => PublishedOut { refusal: 0, format },
+        Err(why) => PublishedOut {
+            refusal: why.into(),
+            format: NO_FORMAT,
         },
-        FormatAnswer::Refused(why) => {
-            let none = Format {
-                base: 0,
-                digits: 0,
-                emin: 0,
-                emax: 0,
-            };
-            PublishedOut {
-                refusal: refusal_number(why),
-                format: none,
-            }
-        }
     }
 }
 
-pub fn check_out(answer: CheckAnswer) -> CheckOut
-    ensures { result ≡ check_out (check_given answer) }
+pub fn check_out(answer: Result<bool, Refusal>) -> CheckOut
+    ensures { result ≡ check_out (given answer) }
 {
     match answer {
-        CheckAnswer::Yes => CheckOut { refusal: 0, yes: 1 },
-        CheckAnswer::No => CheckOut { refusal: 0, yes: 0 },
-        CheckAnswer::Refused(why) => CheckOut {
-            refusal: refusal_number(why),
+        Ok(yes) => CheckOut {
+            refusal: 0,
+            yes: yes.into(),
+        },
+        Err(why) => CheckOut {
+            refusal: why.into(),
             yes: 0,
         },
     }
 }
 
 // The refusal in the upper half, the pattern in the lower.
-pub fn pattern_out(pattern: PatternAnswer) -> u64
-    ensures { result ≡ pattern_out (pattern_given pattern) }
+pub fn pattern_out(answer: Result<u32, Refusal>) -> u64
+    ensures { result ≡ pattern_out (given answer) }
 {
-    match pattern {
-        PatternAnswer::Written(n) => n as u64,
-        PatternAnswer::Refused(why) => refusal_number(why) as u64 * 4294967296,
+    match answer {
+        Ok(pattern) => pattern.into(),
+        Err(why) => u64::from(u32::from(why)) * 4294967296,
     }
 }
 
-pub fn pattern64_out(answer: Pattern64Answer) -> Pattern64Out
-    ensures { result ≡ pattern64_out (pattern64_given answer) }
+pub fn pattern64_out(answer: Result<u64, Refusal>) -> Pattern64Out
+    ensures { result ≡ pattern64_out (given answer) }
 {
     match answer {
-        Pattern64Answer::Written(n) => Pattern64Out {
+        Ok(pattern) => Pattern64Out {
             refusal: 0,
-            pattern: n,
+            pattern,
         },
-        Pattern64Answer::Refused(why) => Pattern64Out {
-            refusal: refusal_number(why),
+        Err(why) => Pattern64Out {
+            refusal: why.into(),
             pattern: 0,
         },
     }
 }
 
-pub fn slices_out(answer: SliceAnswer) -> SlicesOut
-    ensures { result ≡ slices_out (slices_given answer) }
+pub fn slices_out(answer: Result<usize, ListRefusal>) -> SlicesOut
+    ensures { result ≡ slices_out (given_at answer) }
 {
     match answer {
-        SliceAnswer::Done(inexact) => SlicesOut {
+        Ok(inexact) => SlicesOut {
             refusal: 0,
             index: 0,
             inexact: inexact as u64,
         },
-        SliceAnswer::Refused(why) => SlicesOut {
-            refusal: refusal_number(why),
+        Err(ListRefusal::Whole(why)) => SlicesOut {
+            refusal: why.into(),
             index: 0,
             inexact: 0,
         },
-        SliceAnswer::RefusedAt(why, index) => SlicesOut {
-            refusal: refusal_number(why),
+        Err(ListRefusal::Entry(why, index)) => SlicesOut {
+            refusal: why.into(),
             index: index as u64,
             inexact: 0,
         },
     }
 }
 
-pub fn line_out(answer: LineAnswer) -> IndexedOut
-    ensures { result ≡ count_out (line_given answer) }
+// A position, a count or a pattern, or a refusal whose index has 32 bits.
+pub fn count_out(answer: Result<u32, ListRefusal>) -> IndexedOut
+    requires { SmallIndex (given_at answer) }
+    ensures { result ≡ count_out (given_at answer) }
 {
     match answer {
-        LineAnswer::Found(value) => IndexedOut {
+        Ok(value) => IndexedOut {
             refusal: 0,
-            value: value,
+            value,
             indexed: 0,
             index: 0,
         },
-        LineAnswer::Refused(why) => IndexedOut {
-            refusal: refusal_number(why),
+        Err(ListRefusal::Whole(why)) => IndexedOut {
+            refusal: why.into(),
             value: 0,
             indexed: 0,
             index: 0,
         },
-        LineAnswer::RefusedAt(why, index) => IndexedOut {
-            refusal: refusal_number(why),
-            value: 0,
-            indexed: 1,
-            index: index,
-        },
-    }
-}
-
-pub fn stretch_out(answer: Calmer) -> StretchOut
-    ensures { result ≡ stretch_out (calmer_given answer) }
-{
-    match answer {
-        Calmer::First => StretchOut {
-            refusal: 0,
-            log: 1,
-            indexed: 0,
-            index: 0,
-        },
-        Calmer::Second => StretchOut {
-            refusal: 0,
-            log: 2,
-            indexed: 0,
-            index: 0,
-        },
-        Calmer::Refused(why) => StretchOut {
-            refusal: refusal_number(why),
-            log: 0,
-            indexed: 0,
-            index: 0,
-        },
-        Calmer::RefusedAt(why, at) => StretchOut {
-            refusal: refusal_number(why),
-            log: 0,
-            indexed: 1,
-            index: at as u64,
-        },
-    }
-}
-
-pub fn boundary_out(answer: BoundaryAnswer) -> IndexedOut
-    requires { SmallIndex (sums.boundary_given answer) }
-    ensures { result ≡ count_out (sums.boundary_given answer) }
-{
-    match answer {
-        BoundaryAnswer::Sum(sum) => IndexedOut {
-            refusal: 0,
-            value: sum,
-            indexed: 0,
-            index: 0,
-        },
-        BoundaryAnswer::Refused(why) => IndexedOut {
-            refusal: refusal_number(why),
-            value: 0,
-            indexed: 0,
-            index: 0,
-        },
-        BoundaryAnswer::RefusedAt(why, index) => IndexedOut {
-            refusal: refusal_number(why),
+        Err(ListRefusal::Entry(why, index)) => IndexedOut {
+            refusal: why.into(),
             value: 0,
             indexed: 1,
             index: index as u32,
+        },
+    }
+}
+
+// The logs are numbered 1 and 2.
+fn log_number(log: Log) -> u32
+    ensures { result ≡ log_number log }
+{
+    match log {
+        Log::First => 1,
+        Log::Second => 2,
+    }
+}
+
+pub fn stretch_out(answer: Result<Log, ListRefusal>) -> StretchOut
+    ensures { result ≡ stretch_out (calmer_given answer) }
+{
+    match answer {
+        Ok(log) => StretchOut {
+            refusal: 0,
+            log: log_number(log),
+            indexed: 0,
+            index: 0,
+        },
+        Err(ListRefusal::Whole(why)) => StretchOut {
+            refusal: why.into(),
+            log: 0,
+            indexed: 0,
+            index: 0,
+        },
+        Err(ListRefusal::Entry(why, at)) => StretchOut {
+            refusal: why.into(),
+            log: 0,
+            indexed: 1,
+            index: at as u64,
         },
     }
 }

@@ -3,7 +3,7 @@ ghost use Rattle.std.specs.Prelude.{◌≡◌};
 ghost use Rattle.boundaries.specs.Sums.{boundary_answer, boundary_rests};
 ghost use Rattle.c_api.specs.Answers.{count_out};
 
-use crate::answers::{IndexedOut, boundary_out};
+use crate::answers::{IndexedOut, count_out};
 use boundaries::sum::boundary_sum;
 
 // The strips summed from the first on; each y into rests. Refuses 18, 11, 2, and 9 and 5 with the index of a strip; a refused call
@@ -18,5 +18,5 @@ pub extern "C" fn zurkeb_boundary_sum(
     ensures written { rests.new ≡ boundary_rests direction strips.now rests.old }
 {
     let answer = boundary_sum(direction, strips, rests);
-    boundary_out(answer)
+    count_out(answer)
 }

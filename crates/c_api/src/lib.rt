@@ -1,4 +1,5 @@
-// The engine for C: one static library, whose header is include/zurkeb.h. A struct goes by value; the answers are those of `answers`.
+// The engine for C: one static library, whose header is include/zurkeb.h. A struct goes by value; the answers are those of `answers`. Each
+// export is a function of its own, since C calls it by its name.
 #![tactic(auto)]
 
 pub mod answers;

@@ -4,7 +4,7 @@ ghost use Rattle.saved_lines.specs.Lines.{nearest_line, lines_in_order, lines_wi
 ghost use Rattle.saved_lines.specs.Rows.{nearest_lines, row_written};
 ghost use Rattle.c_api.specs.Answers.{count_out};
 
-use crate::answers::{IndexedOut, line_out};
+use crate::answers::{IndexedOut, count_out};
 use saved_lines::nearest::nearest_line;
 use saved_lines::reach::lines_within;
 use saved_lines::row::nearest_lines;
@@ -14,7 +14,7 @@ use saved_lines::row::nearest_lines;
 pub extern "C" fn zurkeb_nearest_line(offsets: &[u32], query: u32) -> IndexedOut
     ensures { result ≡ count_out (nearest_line offsets.now query) }
 {
-    line_out(nearest_line(offsets, query))
+    count_out(nearest_line(offsets, query))
 }
 
 // The positions of all lines within the distance of the query into out, the nearest first, and how many. Refuses 12, 9 (in the list with its index), 13,
@@ -31,7 +31,7 @@ pub extern "C" fn zurkeb_lines_within(
         (lines_in_order offsets.now query distance) out.old }
 {
     let answer = lines_within(offsets, query, distance, out);
-    line_out(answer)
+    count_out(answer)
 }
 
 // The positions of the lines nearest to the queries, which ascend, into out, and the number of lines looked at. Refuses 11; 12, 9 (with
@@ -47,5 +47,5 @@ pub extern "C" fn zurkeb_nearest_lines(
         offsets.now queries.now out.old }
 {
     let answer = nearest_lines(offsets, queries, out);
-    line_out(answer)
+    count_out(answer)
 }

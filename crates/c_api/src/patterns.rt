@@ -10,8 +10,7 @@ ghost use Rattle.decimal32.specs.Patterns.{decimal32_read, decimal32_written};
 ghost use Rattle.c_api.specs.Answers.{number_in, number_out, pattern_out, pattern64_out, slices_out};
 
 use crate::answers::{
-    CNumber, NumberOut, Pattern64Out, SlicesOut, number_in, number_out, pattern_out, pattern64_out,
-    slices_out,
+    CNumber, NumberOut, Pattern64Out, SlicesOut, number_out, pattern_out, pattern64_out, slices_out,
 };
 use binary32::patterns::{read_pattern, write_pattern};
 use binary32_arithmetic::operations::{
@@ -35,7 +34,7 @@ pub extern "C" fn zurkeb_read_pattern(pattern: u32) -> NumberOut
 pub extern "C" fn zurkeb_write_pattern(x: CNumber) -> u64
     ensures { result ≡ pattern_out (pattern_written (number_in x)) }
 {
-    pattern_out(write_pattern(number_in(x)))
+    pattern_out(write_pattern(x.into()))
 }
 
 // The number of a decimal32 pattern. Refuses 9.
@@ -51,7 +50,7 @@ pub extern "C" fn zurkeb_read_decimal32(pattern: u32) -> NumberOut
 pub extern "C" fn zurkeb_write_decimal32(x: CNumber) -> u64
     ensures { result ≡ pattern_out (decimal32_written (number_in x)) }
 {
-    pattern_out(write_decimal32(number_in(x)))
+    pattern_out(write_decimal32(x.into()))
 }
 
 // The number of a binary64 pattern. Refuses 9.
@@ -67,7 +66,7 @@ pub extern "C" fn zurkeb_read_binary64(pattern: u64) -> NumberOut
 pub extern "C" fn zurkeb_write_binary64(x: CNumber) -> Pattern64Out
     ensures { result ≡ pattern64_out (binary64_written (number_in x)) }
 {
-    pattern64_out(write_binary64(number_in(x)))
+    pattern64_out(write_binary64(x.into()))
 }
 
 // a + b. Refuses 2, 9, 5.

@@ -4,7 +4,7 @@ ghost use Rattle.fast_two_sum.specs.Calls.{fast_two_sum};
 ghost use Rattle.fast_two_sum.specs.Checks.{checked_triple};
 ghost use Rattle.c_api.specs.Answers.{number_in, check_out, triple_out};
 
-use crate::answers::{CNumber, CheckOut, TripleOut, check_out, number_in, triple_out};
+use crate::answers::{CNumber, CheckOut, TripleOut, check_out, triple_out};
 use fast_two_sum::check::is_fast_two_sum;
 use fast_two_sum::sum::fast_two_sum;
 use format::Format;
@@ -21,7 +21,7 @@ pub extern "C" fn zurkeb_fast_two_sum(
 ) -> TripleOut
     ensures { result ≡ triple_out (fast_two_sum format first second third (number_in a) (number_in b)) }
 {
-    triple_out(fast_two_sum(format, first, second, third, number_in(a), number_in(b)))
+    triple_out(fast_two_sum(format, first, second, third, a.into(), b.into()))
 }
 
 // Are x, z and y faithful to a + b, x - a and b - z? Refuses 1, 3, 6, 7.
@@ -36,12 +36,5 @@ pub extern "C" fn zurkeb_is_fast_two_sum(
 ) -> CheckOut
     ensures { result ≡ check_out (checked_triple format (number_in a) (number_in b) (number_in x) (number_in z) (number_in y)) }
 {
-    check_out(is_fast_two_sum(
-        format,
-        number_in(a),
-        number_in(b),
-        number_in(x),
-        number_in(z),
-        number_in(y),
-    ))
+    check_out(is_fast_two_sum(format, a.into(), b.into(), x.into(), z.into(), y.into()))
 }

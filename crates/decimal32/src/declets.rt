@@ -59,19 +59,12 @@ static DECLETS: [u16; 1024] = [
     771, 772, 773, 774, 775, 776, 777, 778, 779, 796, 797, 976, 977, 998, 999,
 ];
 
-// As wide as a pattern.
-fn widened(value: u16) -> u32
-    ensures { result ≡ value }
-{
-    value as u32
-}
-
 // The entry of a declet.
 fn entry(table: &[u16; 1024], declet: u32) -> u32
     requires { (holds_declets table.now ≡ true) × (declet < 1024) }
     ensures { result ≡ declet_value declet }
 {
-    widened(table[declet as usize])
+    u32::from(table[declet as usize])
 }
 
 // The six digits of two declets.
@@ -99,26 +92,14 @@ pub fn declet_for(number: u32) -> u32
     let a = number / 100;
     let b = number / 10 % 10;
     let c = number % 10;
-    if a < 8 {
-        if b < 8 {
-            if c < 8 {
-                return bits(a, b, c, a / 2, b / 2, c / 2);
-            }
-            return bits(a, b, c, a / 2, b / 2, 4);
-        }
-        if c < 8 {
-            return bits(a, b, c, a / 2, c / 2, 5);
-        }
-        return bits(a, b, c, a / 2, 2, 7);
+    match (a < 8, b < 8, c < 8) {
+        (true, true, true) => bits(a, b, c, a / 2, b / 2, c / 2),
+        (true, true, false) => bits(a, b, c, a / 2, b / 2, 4),
+        (true, false, true) => bits(a, b, c, a / 2, c / 2, 5),
+        (true, false, false) => bits(a, b, c, a / 2, 2, 7),
+        (false, true, true) => bits(a, b, c, c / 2, b / 2, 6),
+        (false, true, false) => bits(a, b, c, b / 2, 1, 7),
+        (false, false, true) => bits(a, b, c, c / 2, 0, 7),
+        (false, false, false) => bits(a, b, c, 0, 3, 7),
     }
-    if b < 8 {
-        if c < 8 {
-            return bits(a, b, c, c / 2, b / 2, 6);
-        }
-        return bits(a, b, c, b / 2, 1, 7);
-    }
-    if c < 8 {
-        return bits(a, b, c, c / 2, 0, 7);
-    }
-    bits(a, b, c, 0, 3, 7)
 }

@@ -7,7 +7,7 @@ pub mod reading;
 pub mod writing;
 
 // A significand at a place: significand * 10^place in units of 10^-101.
-#[derive(Clone, Copy)]
+#[derive(Clone, Copy, Debug, PartialEq, Eq, Hash)]
 pub struct Placed {
     pub significand: u32,
     pub place: u32,

@@ -5,7 +5,7 @@ ghost use Rattle.format.specs.Published.{decimal32};
 
 use format::{Format, Prepared, Scale};
 
-// The constants that `format::admission::prepare` works out of decimal32.
+// The constants that `format::admission::prepare` works out of decimal32: no other format has any of them.
 pub fn prepared_decimal32() -> Prepared
     ensures { result ≡ prepared_of decimal32 }
 {
@@ -22,8 +22,8 @@ pub fn prepared_decimal32() -> Prepared
         bound: 10000000,
     };
     Prepared {
-        format: format,
-        scale: scale,
+        format,
+        scale,
         highest: 191,
     }
 }

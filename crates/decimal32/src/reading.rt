@@ -1,6 +1,6 @@
 // A pattern read as a number of published format 3.
 ghost use Rattle.std.specs.Prelude.{◌≡◌, true, ◌<◌, ◌^◌};
-ghost use Rattle.number.specs.Answers.{number_given};
+ghost use Rattle.format.specs.Given.{given};
 ghost use Rattle.decimal32.specs.Patterns.{five_of, leading_digit, high_bits, finite, biased_of, coefficient_of, number_read, decimal32_read};
 ghost use Rattle.decimal32.specs.Placed.{AllDigits};
 
@@ -8,8 +8,8 @@ use crate::Placed;
 use crate::declets::six_digits;
 use crate::prepared::prepared_decimal32;
 use format::{Refusal, Significand};
+use number::Number;
 use number::delivery::number_at;
-use number::{Number, NumberAnswer};
 
 // The first five bits of the combination field.
 fn five_of(pattern: u32) -> u32
@@ -48,7 +48,8 @@ fn coefficient_of(pattern: u32) -> u32
     leading * 1000000 + trailing
 }
 
-// The same value with all seven digits, or at place 0. Zero is at place 0.
+// The same value with all seven digits, or at place 0. Zero is at place 0. The loop stays: a chain would have to hand on two values that
+// change together, and say twice where it ends.
 fn with_all_digits(coefficient: u32, place: u32) -> Placed
     requires { coefficient < 10 ^ 7 }
     ensures { AllDigits coefficient place result }
@@ -95,11 +96,11 @@ fn read_finite(pattern: u32) -> Number
 }
 
 // The number that a pattern stands for. Refuses 9.
-pub fn read_decimal32(pattern: u32) -> NumberAnswer
-    ensures { number_given result ≡ decimal32_read pattern }
+pub fn read_decimal32(pattern: u32) -> Result<Number, Refusal>
+    ensures { given result ≡ decimal32_read pattern }
 {
     if !is_finite(pattern) {
-        return NumberAnswer::Refused(Refusal::NotFinite);
+        return Err(Refusal::NotFinite);
     }
-    NumberAnswer::Value(read_finite(pattern))
+    Ok(read_finite(pattern))
 }

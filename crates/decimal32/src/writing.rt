@@ -1,17 +1,17 @@
 // A number of published format 3 written as a pattern.
 ghost use Rattle.std.specs.Prelude.{◌≡◌, true, ◌<◌, ◌≤◌, ◌^◌};
+ghost use Rattle.format.specs.Given.{given};
 ghost use Rattle.format.specs.Published.{decimal32};
-ghost use Rattle.number.specs.Answers.{pattern_given};
 ghost use Rattle.number.specs.Numbers.{member};
 ghost use Rattle.decimal32.specs.Patterns.{five_for, pattern_at, pattern_of, decimal32_written};
 
 use crate::declets::declet_for;
 use crate::prepared::prepared_decimal32;
-use format::Preparation;
+use format::Refusal;
 use format::admission::distance;
+use number::Number;
 use number::checks::with_number;
 use number::patterns::sign_weight;
-use number::{Number, PatternAnswer};
 
 // The first five bits of the combination field.
 fn five_for(high: u32, digit: u32) -> u32
@@ -47,11 +47,9 @@ fn pattern_of(x: Number) -> u32
 }
 
 // The pattern of a number. Refuses 3.
-pub fn write_decimal32(x: Number) -> PatternAnswer
-    ensures { pattern_given result ≡ decimal32_written x }
+pub fn write_decimal32(x: Number) -> Result<u32, Refusal>
+    ensures { given result ≡ decimal32_written x }
 {
-    match with_number(Preparation::Ready(prepared_decimal32()), x) {
-        Preparation::Refused(why) => PatternAnswer::Refused(why),
-        Preparation::Ready(_) => PatternAnswer::Written(pattern_of(x)),
-    }
+    with_number(prepared_decimal32(), x)?;
+    Ok(pattern_of(x))
 }

@@ -1,5 +1,5 @@
 -- Numbers of the wide format with 24 binary digits: read from a pattern, added, and in the order of their ranks.
-use Rattle.theory.proofs.Prelude.{ℕ, ◌≤◌, ◌<◌, ◌+◌, ◌^◌, ◌*◌, ◌-◌, ◌%◌, true, false, ⊎_elim, inl, ◌∙◌, ap, ap₂, ◌≡◌, sym, refl, dec_le, zero-mul, arith, ltb, ℤ, ◌+ℤ◌, nat_abs, neg_ℤ, lt_z}
+use Rattle.theory.proofs.Prelude.{ℕ, ◌≤◌, ◌<◌, ◌+◌, ◌^◌, ◌*◌, ◌-◌, ◌%◌, ⊎_elim, inl, ◌∙◌, ap, ap₂, ◌≡◌, sym, refl, dec_le, zero-mul, arith, ltb, ℤ, ◌+ℤ◌, nat_abs, neg_ℤ, lt_z}
 use Rattle.theory.specs.Wide.{Canonical}
 use Rattle.theory.specs.declared.Direction.TheVariants.{NearestEven}
 use Rattle.theory.specs.declared.Mark.TheVariants.{Exact}
@@ -18,8 +18,8 @@ use Rattle.rounding.specs.declared.Rounding.{Rounding}
 use Rattle.wide.specs.Operand.{Bounded, size_of, value_of, wide}
 use Rattle.wide.specs.Sum.{RoundsZ}
 use Rattle.wide.proofs.Results.{sum_value, sum_place}
-use Rattle.binary32.specs.Patterns.{sign_of, field_of, finite, magnitude_read, pattern_value}
-use Rattle.binary32.proofs.Fields.{binary32_limits, binary_24, significand_of, significand_canonical, magnitude_is, finite_field}
+use Rattle.binary32.specs.Patterns.{sign_of, field_of, magnitude_read, pattern_value}
+use Rattle.binary32.proofs.Fields.{binary32_limits, binary_24, significand_of, significand_canonical, magnitude_is}
 use Rattle.exact_sums.specs.Numbers.{Placed, Holds, SumOf, turned, size_rank, rank_of}
 
 pub placed_more : {k : ℕ} {x : Wide} (n : ℕ) → k ≤ n → Placed k x → Placed n x
@@ -29,13 +29,13 @@ pub value_wide : {k : ℕ} {x : Wide} → Placed k x → WideZ 2 24 (value_of 2 
 value_wide {x = x} h = rw (size_signed x.negative (size_of 2 x)) (canonical_wide binary_24 h.canonical)
 
 -- ---- the number of a pattern: its sign, its fraction with the leading digit, and the place of its field
-pub pattern_holds : (n : ℕ) → finite n ≡ true → {field m k : ℕ} → field ≡ field_of n → m ≡ significand_of field (n % 2 ^ 23) → k ≡ field - 1
-    → Holds 253 (pattern_value n) (wide (sign_of n) m k)
+pub pattern_holds : (n : ℕ) {field m k : ℕ} → field ≡ field_of n → m ≡ significand_of field (n % 2 ^ 23) → k ≡ field - 1
+    → Holds 254 (pattern_value n) (wide (sign_of n) m k)
 unfolding pattern_value magnitude_read
-pattern_holds n h g e f =
+pattern_holds n g e f =
     rw (e, f, g)
     (record {
-      placed = record { canonical = significand_canonical (field_of n) (omega arith); place_most = omega (arith, finite_field n h) };
+      placed = record { canonical = significand_canonical (field_of n) (omega arith); place_most = omega arith };
       value = ap (signed (sign_of n)) (sym (magnitude_is n));
     })
 
@@ -100,14 +100,6 @@ rank_upto {x} {y} hx hy l = by (dec_le (size_rank y) (size_rank x))
         let k : x.place ≡ y.place = omega (arith, hx.canonical.small, hy.canonical.small) in
         let m : x.significand ≡ y.significand = omega arith in
         rw (k, m) (omega arith)
-
--- the two branches of the code
-module _ (x : Wide) where
-  pub ranked_below : x.negative ≡ true → 2 ^ 33 - size_rank x ≡ rank_of x
-  ranked_below e = sym (rw e)
-
-  pub ranked_above : x.negative ≡ false → 2 ^ 33 + size_rank x ≡ rank_of x
-  ranked_above e = sym (rw e)
 
 -- the order of the ranks is that of the values
 pub rank_order : {x y : Wide} → Placed 300 x → Placed 300 y → {i j : ℕ} → i ≡ rank_of x → j ≡ rank_of y → ltb i j ≡ lt_z (value_of 2 x) (value_of 2 y)

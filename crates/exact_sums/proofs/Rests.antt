@@ -1,7 +1,6 @@
 -- What a sum rounded to nearest leaves is in the format, and two sums are in the order of their rounded sums, then of what these leave.
-use Rattle.theory.proofs.Prelude.{ℕ, ◌≤◌, ◌^◌, ◌%◌, true, false, Bool, not, inl, ◌∙◌, ap, ◌≡◌, refl, subst, arith, ℤ, pos, ◌+ℤ◌, nat_abs, ◌-ℤ◌, neg_ℤ, ◌*ℤ◌, +ℤ_comm, lt_z, le_z}
+use Rattle.theory.proofs.Prelude.{ℕ, ◌≤◌, ◌^◌, ◌%◌, true, false, Bool, not, ◌∙◌, ap, ◌≡◌, refl, subst, arith, ℤ, pos, ◌+ℤ◌, nat_abs, ◌-ℤ◌, neg_ℤ, ◌*ℤ◌, +ℤ_comm, lt_z, le_z}
 use Rattle.theory.specs.declared.Direction.TheVariants.{NearestEven}
-use Rattle.theory.specs.declared.Mark.TheVariants.{Exact}
 use Rattle.theory.specs.Signed.{round_z}
 use Rattle.theory.proofs.Integers.{above, below, sum_parts, diff_parts, neg_above, neg_below, le_parts, parts_eq, parts_scale_le, scale_above, scale_below}
 use Rattle.theory.proofs.Order.{Upto, le_true, le_false, lt_true, lt_false}
@@ -11,7 +10,7 @@ use Rattle.theory.proofs.FastTwoSum.{WideTriple, nearest_exact, rounded_triple}
 use Rattle.theory.proofs.Tests.{refuted}
 use Rattle.rounding.specs.declared.Rounding.{Rounding}
 use Rattle.rounding.specs.declared.Wide.{Wide}
-use Rattle.wide.specs.Operand.{value_of, wide}
+use Rattle.wide.specs.Operand.{value_of}
 use Rattle.binary32.specs.Patterns.{pattern_value}
 use Rattle.binary32.proofs.Fields.{binary_24}
 use Rattle.binary32.proofs.PatternOrder.{magnitude_most}
@@ -24,26 +23,23 @@ less u v e =
     rw e (parts_eq (u +ℤ neg_ℤ v) (u -ℤ v) (omega (arith, sum_parts u (neg_ℤ v), diff_parts u v, neg_above v, neg_below v)))
 
 -- ---- two further steps: z = x - a, y = b - z
-module _ (a b : Wide) (ha : Placed 253 a) (hb : Placed 253 b) {x : Wide} (hx : Nearest 254 (value_of 2 a +ℤ value_of 2 b) x) {m : Wide} (em : m ≡ turned a) where
-  m_placed : Placed 254 m
-  m_placed = turned_placed 254 (omega arith) ha em
-
-  pub second_placed : Placed 300 x × Placed 300 m
-  second_placed = (placed_more 300 (omega arith) hx.placed, placed_more 300 (omega arith) m_placed)
+module _ (a b : Wide) (ha : Placed 254 a) (hb : Placed 254 b) {x : Wide} (hx : Nearest 255 (value_of 2 a +ℤ value_of 2 b) x) {m : Wide} (em : m ≡ turned a) where
+  m_placed : Placed 255 m
+  m_placed = turned_placed 255 (omega arith) ha em
 
   module _ {z : Rounding} (ez : SumOf x m z) {w : Wide} (ew : w ≡ turned z.wide) where
-    hz : Nearest 255 (value_of 2 x +ℤ value_of 2 m) z.wide
-    hz = (ez 254 hx.placed m_placed).nearest
+    hz : Nearest 256 (value_of 2 x +ℤ value_of 2 m) z.wide
+    hz = (ez 255 hx.placed m_placed).nearest
 
-    w_placed : Placed 255 w
-    w_placed = turned_placed 255 (omega arith) hz.placed ew
+    w_placed : Placed 256 w
+    w_placed = turned_placed 256 (omega arith) hz.placed ew
 
     pub third_placed : Placed 300 b × Placed 300 w
     third_placed = (placed_more 300 (omega arith) hb, placed_more 300 (omega arith) w_placed)
 
     module _ (order : nat_abs (value_of 2 b) ≤ nat_abs (value_of 2 a)) {y : Rounding} (ey : SumOf b w y) where
-      hy : Nearest 256 (value_of 2 b +ℤ value_of 2 w) y.wide
-      hy = (ey 255 (placed_more 255 (omega arith) hb) w_placed).nearest
+      hy : Nearest 257 (value_of 2 b +ℤ value_of 2 w) y.wide
+      hy = (ey 256 (placed_more 256 (omega arith) hb) w_placed).nearest
 
       z_is : value_of 2 z.wide ≡ round_z 2 24 NearestEven (value_of 2 x -ℤ value_of 2 a) 1
       z_is = hz.value ∙ ap (λ (v : ℤ). round_z 2 24 NearestEven v 1) (less (value_of 2 x) (value_of 2 a) (turned_is a em))
@@ -58,15 +54,6 @@ module _ (a b : Wide) (ha : Placed 253 a) (hb : Placed 253 b) {x : Wide} (hx : N
       pub rest_made : RestOf (value_of 2 a +ℤ value_of 2 b) x y.wide
       rest_made =
           record { placed = placed_more 300 (omega arith) hy.placed; exact = nearest_exact binary_24 triple to_even hx.value }
-
--- an exact sum leaves nothing
-pub nothing_left : {k : ℕ} {N : ℤ} {x : Rounding} → Marked k N x → x.mark ≡ Exact → RestOf N x.wide (wide false 0 0)
-nothing_left {x = x} h e =
-    let v : ℤ = value_of 2 x.wide in
-    record {
-      placed = record { canonical = record { small = omega arith; normal = inl refl }; place_most = omega arith };
-      exact = parts_eq (v +ℤ pos 0) v (omega (arith, sum_parts v (pos 0))) ∙ h.exact e;
-    }
 
 -- ---- from patterns
 pub in_order : (a b : ℕ) {v w : ℤ} → v ≡ pattern_value a → w ≡ pattern_value b → a % 2 ^ 31 ≤ b % 2 ^ 31 → nat_abs v ≤ nat_abs w
@@ -83,19 +70,13 @@ module _ {u v u' v' : ℤ} (e : u ≡ u') (f : v ≡ v') where
   pub nearest_turned : {k : ℕ} {x : Wide} → Nearest k (v' +ℤ u') x → Nearest k (u +ℤ v) x
   nearest_turned {k} {x} s = nearest_here (subst (λ (N : ℤ). Nearest k N x) (+ℤ_comm v' u') s)
 
-  pub rest_told : {x r : Wide} → RestOf (u +ℤ v) x r → RestOf (u' +ℤ v') x r
-  rest_told s = rw (← e, ← f) s
-
-  pub rest_turned : {x r : Wide} → RestOf (u +ℤ v) x r → RestOf (v' +ℤ u') x r
-  rest_turned {x} {r} s = subst (λ (N : ℤ). RestOf N x r) (+ℤ_comm u' v') (rest_told s)
-
 -- ---- the order of two sums
-rounded_upto : {N M : ℤ} {x y : Wide} → Nearest 254 N x → Nearest 254 M y → Upto N M → Upto (value_of 2 x) (value_of 2 y)
+rounded_upto : {N M : ℤ} {x y : Wide} → Nearest 255 N x → Nearest 255 M y → Upto N M → Upto (value_of 2 x) (value_of 2 y)
 rounded_upto {N} {M} s t l =
     rw (s.value, t.value)
     (le_parts (round_z_mono binary_24 NearestEven N M (omega arith) (omega arith) (parts_scale_le N 1 (M *ℤ pos 1) (omega (arith, scale_above M 1, scale_below M 1)))))
 
-module _ {N M : ℤ} {x y : Wide} (s : Nearest 254 N x) (t : Nearest 254 M y) where
+module _ {N M : ℤ} {x y : Wide} (s : Nearest 255 N x) (t : Nearest 255 M y) where
   pub rounded_less : lt_z (value_of 2 x) (value_of 2 y) ≡ true → true ≡ le_z N M
   rounded_less h = by (le_z N M) refl
     where

@@ -1,8 +1,8 @@
 // Numbers of the wide format with 24 binary digits, in units of 2 ^ -149: read from a pattern, added and compared.
-ghost use Rattle.std.specs.Prelude.{◌≡◌, true};
+ghost use Rattle.std.specs.Prelude.{◌≡◌};
 ghost use Rattle.std.specs.Int.Signed.{lt_z};
 ghost use Rattle.wide.specs.Operand.{value_of};
-ghost use Rattle.binary32.specs.Patterns.{finite, pattern_value};
+ghost use Rattle.binary32.specs.Patterns.{pattern_value};
 ghost use Rattle.exact_sums.specs.Numbers.{Placed, Holds, SumOf, turned, rank_of};
 
 use binary32::patterns::{field_of, place_of, significand_of};
@@ -10,21 +10,20 @@ use binary32::prepared::prepared_binary32;
 use rounding::{Rounding, Wide};
 use theory::Direction;
 
-// The number of a finite pattern.
+// The number of a pattern; an infinity or NaN reads as a number with the greatest field.
 pub(crate) fn read_wide(pattern: u32) -> Wide
-    requires { finite pattern ≡ true }
-    ensures { Holds 253 (pattern_value pattern) result }
+    ensures { Holds 254 (pattern_value pattern) result }
 {
     let field = field_of(pattern);
-    let significand = significand_of(field, pattern % 8388608);
     Wide {
         negative: 2147483648 <= pattern,
-        significand: significand,
+        significand: significand_of(field, pattern % 8388608),
         place: place_of(field),
     }
 }
 
-// x + y, rounded to nearest, with its mark.
+// x + y, rounded to nearest, with its mark. The bound on the place is a premise and not a type's: each sum has one more, and a type with 300
+// would be made anew of each.
 pub(crate) fn rounded_sum(x: Wide, y: Wide) -> Rounding
     requires { Placed 300 x × Placed 300 y }
     ensures { SumOf x y result }
@@ -39,8 +38,7 @@ pub(crate) fn negated(x: Wide) -> Wide
 {
     Wide {
         negative: !x.negative,
-        significand: x.significand,
-        place: x.place,
+        ..x
     }
 }
 

@@ -1,9 +1,9 @@
 // Is a + b at most c + d? Rounding is monotone, so where the sums rounded to nearest differ they decide. Where they are equal what they
 // leave decides, which is in the format: two further steps find it without an error.
-ghost use Rattle.std.specs.Prelude.{◌≡◌, true, ◌≤◌, ◌+ℤ◌, nat_abs};
+ghost use Rattle.std.specs.Prelude.{◌≡◌, ◌≤◌, ◌+ℤ◌, nat_abs};
 ghost use Rattle.std.specs.Int.Signed.{le_z};
 ghost use Rattle.wide.specs.Operand.{value_of};
-ghost use Rattle.binary32.specs.Patterns.{finite, pattern_value};
+ghost use Rattle.binary32.specs.Patterns.{pattern_value};
 ghost use Rattle.exact_sums.specs.Numbers.{Placed, Nearest, Marked, RestOf};
 
 use crate::numbers::{is_below, negated, read_wide, rounded_sum};
@@ -12,22 +12,19 @@ use theory::Mark;
 
 // a + b - x, where x is a + b rounded to nearest, and b is not greater than a in magnitude.
 fn rest_ordered(a: Wide, b: Wide, x: Wide) -> Wide
-    requires { Placed 253 a × Placed 253 b × (nat_abs (value_of 2 b) ≤ nat_abs (value_of 2 a)) × Nearest 254 (value_of 2 a +ℤ value_of 2 b) x }
+    requires { Placed 254 a × Placed 254 b × (nat_abs (value_of 2 b) ≤ nat_abs (value_of 2 a)) × Nearest 255 (value_of 2 a +ℤ value_of 2 b) x }
     ensures { RestOf (value_of 2 a +ℤ value_of 2 b) x result }
 {
     let z = rounded_sum(x, negated(a));
-    let y = rounded_sum(b, negated(z.wide));
-    let rest = y.wide;
-    rest
+    rounded_sum(b, negated(z.wide)).wide
 }
 
-// a + b - x: nothing where the mark says exact, else from the one that is greater in magnitude. Both are finite patterns.
+// a + b - x: nothing where the mark says exact, else from the one that is greater in magnitude.
 fn rest(a: u32, b: u32, x: Rounding) -> Wide
-    requires { (finite a ≡ true) × (finite b ≡ true) × Marked 254 (pattern_value a +ℤ pattern_value b) x }
+    requires { Marked 255 (pattern_value a +ℤ pattern_value b) x }
     ensures { RestOf (pattern_value a +ℤ pattern_value b) x.wide result }
 {
-    let mark = x.mark;
-    if let Mark::Exact = mark {
+    if x.mark == Mark::Exact {
         return Wide {
             negative: false,
             significand: 0,
@@ -40,9 +37,8 @@ fn rest(a: u32, b: u32, x: Rounding) -> Wide
     rest_ordered(read_wide(a), read_wide(b), x.wide)
 }
 
-// Is a + b at most c + d? All are finite patterns.
+// Is a + b at most c + d?
 pub fn sums_upto(a: u32, b: u32, c: u32, d: u32) -> bool
-    requires { (finite a ≡ true) × (finite b ≡ true) × (finite c ≡ true) × (finite d ≡ true) }
     ensures { result ≡ le_z (pattern_value a +ℤ pattern_value b) (pattern_value c +ℤ pattern_value d) }
 {
     let x = rounded_sum(read_wide(a), read_wide(b));

@@ -4,8 +4,9 @@ use Rattle.theory.proofs.Words.{◌and◌, unless, all}
 use Rattle.theory.proofs.Tests.{and_left, and_right, and_made, unless_passed, unless_failed}
 use Rattle.number.proofs.Prelude.{Format, magnitude}
 use Rattle.number.specs.declared.Number.{Number}
-use Rattle.format.specs.declared.Verdict.{Verdict}
-use Rattle.format.specs.Given.{Given, gives, refused, ◌then◌, verdict_given}
+use Rattle.std.specs.Prelude.{Result}
+use Rattle.format.specs.declared.Refusal.{Refusal}
+use Rattle.format.specs.Given.{Given, gives, refused, ◌then◌, given}
 use Rattle.number.specs.Checks.{checked, Checks}
 use Rattle.number.specs.Checks as checks
 use Rattle.number.proofs.CheckLaws.{checks_end}
@@ -36,10 +37,10 @@ module _ (f : Format) (a b : Number) {A : Type 0} (g : Given A) where
     order_passed l = unless_passed _ _ h ∙ unless_passed _ _ (le-leb _ _ l)
 
   -- a verdict is handed on: its refusal, or what comes after it
-  pub order_answered : {v w : Verdict} → verdict_given v ≡ order_checked f a b (gives tt) → v ≡ w → (verdict_given w then (λ (u : Unit). g)) ≡ order_checked f a b g
+  pub order_answered : {v w : Result Unit Refusal} → given v ≡ order_checked f a b (gives tt) → v ≡ w → (given w then (λ (u : Unit). g)) ≡ order_checked f a b g
   unfolding order_checked unless
   order_answered k e =
-      ap (λ (v : Verdict). verdict_given v then (λ (u : Unit). g)) (sym e)
+      ap (λ (v : Result Unit Refusal). given v then (λ (u : Unit). g)) (sym e)
       ∙ ap (λ (h : Given Unit). h then (λ (u : Unit). g)) k
       ∙ on (is_binary f) (leb (magnitude f b) (magnitude f a))
     where

@@ -1,29 +1,28 @@
 // The check: each of three numbers is faithful to its step exactly when it equals the step rounded down or rounded up.
 ghost use Rattle.std.specs.Prelude.{◌≡◌, true, [], ◌∷◌, ◌+ℤ◌, ◌-ℤ◌};
 ghost use Rattle.format.specs.Formats.{admitted};
-ghost use Rattle.format.specs.Given.{gives};
+ghost use Rattle.format.specs.Given.{gives, given};
 ghost use Rattle.number.specs.Numbers.{member, value};
-ghost use Rattle.number.specs.Answers.{number_given, check_given};
 ghost use Rattle.number.specs.Checks.{Operand, Operands, entered};
 ghost use Rattle.fast_two_sum.specs.Checks.{is_result, is_faithful, is_triple, checked_triple};
 
 use crate::entry::check_order;
 use arithmetic::sum::add;
-use format::{Format, Preparation, Prepared, Verdict};
+use format::{Format, Prepared, Refusal};
+use number::Number;
 use number::checks::{enter_two, with_number};
 use number::order::same_value;
 use number::signs::with_sign;
-use number::{CheckAnswer, Number, NumberAnswer};
 use theory::Direction;
 
 // Has x the value that a step gave? A step that is too large gave none.
-fn is_result(format: Format, step: NumberAnswer, x: Number) -> bool
-    requires { (admitted format ≡ true) × (member format x ≡ true) × ((r : Number) → number_given step ≡ gives r → member format r ≡ true) }
-    ensures { result ≡ is_result format (number_given step) x }
+fn is_result(format: Format, step: Result<Number, Refusal>, x: Number) -> bool
+    requires { (admitted format ≡ true) × (member format x ≡ true) × ((r : Number) → given step ≡ gives r → member format r ≡ true) }
+    ensures { result ≡ is_result format (given step) x }
 {
     match step {
-        NumberAnswer::Refused(_) => false,
-        NumberAnswer::Value(r) => same_value(format, x, r),
+        Err(_) => false,
+        Ok(r) => same_value(format, x, r),
     }
 }
 
@@ -49,11 +48,18 @@ fn is_faithful_difference(prepared: Prepared, a: Number, b: Number, x: Number) -
 }
 
 // Five numbers. Refuses 1, 3.
-fn enter_check(format: Format, a: Number, b: Number, x: Number, z: Number, y: Number) -> Preparation
+fn enter_check(
+    format: Format,
+    a: Number,
+    b: Number,
+    x: Number,
+    z: Number,
+    y: Number,
+) -> Result<Prepared, Refusal>
     ensures { result ≡ entered format [] (a ∷ b ∷ x ∷ z ∷ y ∷ []) }
 {
-    let three = with_number(enter_two(format, z, y), x);
-    with_number(with_number(three, b), a)
+    let three = with_number(enter_two(format, z, y)?, x)?;
+    with_number(with_number(three, b)?, a)
 }
 
 // Are x, z and y a triple?
@@ -78,19 +84,10 @@ pub fn is_fast_two_sum(
     x: Number,
     z: Number,
     y: Number,
-) -> CheckAnswer
-    ensures { check_given result ≡ checked_triple format a b x z y }
+) -> Result<bool, Refusal>
+    ensures { given result ≡ checked_triple format a b x z y }
 {
-    match enter_check(format, a, b, x, z, y) {
-        Preparation::Refused(why) => CheckAnswer::Refused(why),
-        Preparation::Ready(prepared) => match check_order(format, a, b) {
-            Verdict::Refused(why) => CheckAnswer::Refused(why),
-            Verdict::Passed => {
-                if is_triple(prepared, a, b, x, z, y) {
-                    return CheckAnswer::Yes;
-                }
-                CheckAnswer::No
-            }
-        },
-    }
+    let prepared = enter_check(format, a, b, x, z, y)?;
+    check_order(format, a, b)?;
+    Ok(is_triple(prepared, a, b, x, z, y))
 }

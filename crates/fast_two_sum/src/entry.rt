@@ -1,28 +1,28 @@
 // The refusals that the sum and its check share: the format is not binary, or the first number is smaller than the second.
 ghost use Rattle.std.specs.Prelude.{◌≡◌, true};
 ghost use Rattle.format.specs.Formats.{admitted};
-ghost use Rattle.format.specs.Given.{gives, verdict_given};
+ghost use Rattle.format.specs.Given.{gives, given};
 ghost use Rattle.number.specs.Numbers.{member};
 ghost use Rattle.fast_two_sum.specs.Calls.{order_checked};
 
-use format::{Format, Refusal, Verdict};
+use format::{Format, Refusal};
+use number::Number;
 use number::order::compare_magnitudes;
-use number::{Number, Ordering};
+use std::cmp::Ordering;
 
 // Refuses 6, 7.
-pub fn check_order(format: Format, a: Number, b: Number) -> Verdict
+pub fn check_order(format: Format, a: Number, b: Number) -> Result<(), Refusal>
     requires { (admitted format ≡ true) × (member format a ≡ true) × (member format b ≡ true) }
-    ensures { verdict_given result ≡ order_checked format a b (gives tt) }
+    ensures { given result ≡ order_checked format a b (gives tt) }
 {
     if format.base != 2 {
-        return Verdict::Refused(Refusal::NotBinary);
+        return Err(Refusal::NotBinary);
     }
     if format.digits < 2 {
-        return Verdict::Refused(Refusal::NotBinary);
+        return Err(Refusal::NotBinary);
     }
-    match compare_magnitudes(format, a, b) {
-        Ordering::Less => Verdict::Refused(Refusal::SmallerFirst),
-        Ordering::Equal => Verdict::Passed,
-        Ordering::Greater => Verdict::Passed,
+    if compare_magnitudes(format, a, b) == Ordering::Less {
+        return Err(Refusal::SmallerFirst);
     }
+    Ok(())
 }

@@ -1,7 +1,9 @@
 -- What a call gives is one thing: values are no refusal.
 use Rattle.theory.proofs.Prelude.{ℕ, true, false, Bool, ◌≡◌, refl, arith}
 use Rattle.theory.specs.Tests.{unless}
-use Rattle.format.specs.Given.{Given, gives, refused, refused_at}
+use Rattle.std.specs.Prelude.{Result, Ok, Err}
+use Rattle.format.specs.declared.Refusal.{Refusal}
+use Rattle.format.specs.Given.{Given, gives, refused, refused_at, given}
 
 pub gives_same : {A : Type 0} {x y : A} → gives x ≡ gives y → x ≡ y
 gives_same h = cc
@@ -20,3 +22,8 @@ pub unless_gives : {A : Type 0} (t : Bool) (n : ℕ) {x y : A} → unless t (ref
 unfolding unless
 unless_gives true n h = (refl, cc)
 unless_gives false n h = absurd (let z : ◌≡◌ {A = ℕ} 0 1 = cc in omega arith)
+
+-- from what a call gives its answer follows
+pub given_value : {A : Type 0} (r : Result A Refusal) {x : A} → given r ≡ gives x → r ≡ Ok x
+given_value (Ok y) h = cc
+given_value (Err why) h = absurd (let z : ◌≡◌ {A = ℕ} 0 1 = cc in omega arith)

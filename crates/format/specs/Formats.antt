@@ -1,12 +1,11 @@
 -- The admitted formats, and what is prepared from one.
-use Rattle.std.specs.Prelude.{ℕ, ◌^◌, ◌-◌, ◌≤◌, ◌≡◌, Bool, leb, ℤ, pos, negsuc, nat_abs, ◌-ℤ◌}
+use Rattle.std.specs.Prelude.{ℕ, ◌^◌, ◌-◌, ◌≤◌, ◌≡◌, Bool, leb, ℤ, pos, negsuc, nat_abs, ◌-ℤ◌, Result, Ok, Err}
 use Rattle.std.specs.Int.Signed.{le_z}
 use Rattle.theory.specs.Tests.{◌and◌, unless}
 use Rattle.format.specs.declared.Format.{Format}
 use Rattle.format.specs.declared.Scale.{Scale}
 use Rattle.format.specs.declared.Prepared.{Prepared}
-use Rattle.format.specs.declared.Preparation.{Preparation}
-use Rattle.format.specs.declared.Preparation.TheVariants as prepared
+use Rattle.format.specs.declared.Refusal.{Refusal}
 use Rattle.format.specs.declared.Refusal.TheVariants.{FormatNotAdmitted}
 use Rattle.format.specs.Given.{Given, gives, refused}
 
@@ -41,8 +40,8 @@ highest_place f = nat_abs (f.emax -ℤ f.emin)
 abbrev pub prepared_of : Format → Prepared
 prepared_of f = record { format = f; scale = scale_of f; highest = highest_place f }
 
-unfoldable pub preparation : Format → Preparation
-preparation f = unless (admitted f) (prepared.Refused FormatNotAdmitted) (prepared.Ready (prepared_of f))
+unfoldable pub preparation : Format → Result Prepared Refusal
+preparation f = unless (admitted f) (Err FormatNotAdmitted) (Ok (prepared_of f))
 
 -- a scale of a format whose powers are within a limit
 pub record ScaledWithin (limit : ℕ) (s : Scale) : Type 0 where

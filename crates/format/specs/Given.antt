@@ -1,11 +1,9 @@
--- What a call gives in the papers' terms: values, or a refusal by its number, with an index where the paper has one. Beside each answer
--- of the code stands what it is in these terms; the promises of the public calls go by that.
-use Rattle.std.specs.Prelude.{ℕ}
-use Rattle.format.specs.declared.Format.{Format}
-use Rattle.format.specs.declared.FormatAnswer.{FormatAnswer}
-use Rattle.format.specs.declared.FormatAnswer.TheVariants as format
-use Rattle.format.specs.declared.Verdict.{Verdict}
-use Rattle.format.specs.declared.Verdict.TheVariants as verdict
+-- What a call gives in the papers' terms: values, or a refusal by its number, with an index where the paper has one; and what an answer
+-- of the code is in these terms. The promises of the public calls go by that.
+use Rattle.std.specs.Prelude.{ℕ, Result, Ok, Err}
+use Rattle.format.specs.declared.Refusal.{Refusal}
+use Rattle.format.specs.declared.ListRefusal.{ListRefusal}
+use Rattle.format.specs.declared.ListRefusal.TheVariants.{Whole, Entry}
 use Rattle.format.specs.Refusals.{refusal_number}
 
 pub data Given (A : Type 0) : Type 0 where
@@ -20,12 +18,13 @@ gives x then next = next x
 refused number then next = refused number
 refused_at number index then next = refused_at number index
 
--- ---- the answers of this crate
--- a check that is passed gives nothing
-abbrev pub verdict_given : Verdict → Given Unit
-verdict_given verdict.Passed = gives tt
-verdict_given (verdict.Refused why) = refused (refusal_number why)
+-- ---- the answers of the code
+abbrev pub given : {A : Type 0} → Result A Refusal → Given A
+given (Ok x) = gives x
+given (Err why) = refused (refusal_number why)
 
-abbrev pub format_given : FormatAnswer → Given Format
-format_given (format.Found f) = gives f
-format_given (format.Refused why) = refused (refusal_number why)
+-- of a call on lists
+abbrev pub given_at : {A : Type 0} → Result A ListRefusal → Given A
+given_at (Ok x) = gives x
+given_at (Err (Whole why)) = refused (refusal_number why)
+given_at (Err (Entry why index)) = refused_at (refusal_number why) index

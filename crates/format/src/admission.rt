@@ -1,11 +1,11 @@
 // Which formats are admitted, and what every call works out of one.
 ghost use Rattle.std.specs.Prelude.{◌≡◌, true, ◌-ℤ◌, nat_abs};
 ghost use Rattle.std.specs.Int.Signed.{le_z};
-ghost use Rattle.format.specs.Given.{verdict_given};
+ghost use Rattle.format.specs.Given.{given};
 ghost use Rattle.format.specs.Formats.{admitted, exponents_admitted, format_checked, highest_place, preparation};
 
 use crate::powers::{fits, power};
-use crate::{Format, Preparation, Prepared, Refusal, Scale, Significand, Verdict};
+use crate::{Format, Prepared, Refusal, Scale, Significand};
 
 // -1200 ≤ emin ≤ emax ≤ 1200.
 fn exponents_admitted(emin: i32, emax: i32) -> bool
@@ -49,40 +49,39 @@ pub fn distance(from: i32, to: i32) -> u32
     requires { exponents_admitted from to ≡ true }
     ensures { result ≡ nat_abs (to -ℤ from) }
 {
-    (to - from) as u32
+    to.abs_diff(from)
 }
 
 // The format with its powers and its highest place. Refuses 1.
-pub fn prepare(format: Format) -> Preparation
+pub fn prepare(format: Format) -> Result<Prepared, Refusal>
     ensures { result ≡ preparation format }
 {
     if !is_admitted(format) {
-        return Preparation::Refused(Refusal::FormatNotAdmitted);
+        return Err(Refusal::FormatNotAdmitted);
     }
     let base = format.base;
     let digits = format.digits;
     let least = power(base, digits - 1);
     let bound = least * base as Significand;
-    let scale = Scale {
-        base: base,
-        digits: digits,
-        least: least,
-        bound: bound,
-    };
-    Preparation::Ready(Prepared {
-        format: format,
-        scale: scale,
+    Ok(Prepared {
+        format,
+        scale: Scale {
+            base,
+            digits,
+            least,
+            bound,
+        },
         highest: distance(format.emin, format.emax),
     })
 }
 
 // Is the format admitted? Refuses 1.
-pub fn check_format(format: Format) -> Verdict
-    ensures { verdict_given result ≡ format_checked format }
+pub fn check_format(format: Format) -> Result<(), Refusal>
+    ensures { given result ≡ format_checked format }
 {
     if is_admitted(format) {
-        Verdict::Passed
+        Ok(())
     } else {
-        Verdict::Refused(Refusal::FormatNotAdmitted)
+        Err(Refusal::FormatNotAdmitted)
     }
 }

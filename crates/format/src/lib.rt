@@ -2,7 +2,6 @@
 #![tactic(auto)]
 
 pub mod admission;
-pub mod directions;
 pub mod powers;
 pub mod published;
 pub mod refusals;
@@ -12,7 +11,7 @@ pub type Significand = u64;
 
 // Base, digits, lowest and highest exponent of the whole-number significand.
 #[repr(C)]
-#[derive(Clone, Copy)]
+#[derive(Clone, Copy, Debug, PartialEq, Eq, Hash)]
 pub struct Format {
     pub base: u32,
     pub digits: u32,
@@ -21,9 +20,9 @@ pub struct Format {
 }
 
 // Why a call is refused, in the order of the papers' numbers, from 1 on.
-#[derive(Clone, Copy)]
+#[derive(Clone, Copy, Debug, PartialEq, Eq, Hash)]
 pub enum Refusal {
-    FormatNotAdmitted,
+    FormatNotAdmitted = 1,
     NoSuchDirection,
     NumberNotInFormat,
     DivisorZero,
@@ -43,9 +42,16 @@ pub enum Refusal {
     StripCount,
 }
 
+// Why a call on lists is refused: as a whole, or for the entry at an index.
+#[derive(Clone, Copy, Debug, PartialEq, Eq, Hash)]
+pub enum ListRefusal {
+    Whole(Refusal),
+    Entry(Refusal, usize),
+}
+
 // A base and a number of digits, with the powers that every operation needs: the least normal significand, base ^ (digits - 1), and the
 // bound that every significand is below, base ^ digits.
-#[derive(Clone, Copy)]
+#[derive(Clone, Copy, Debug, PartialEq, Eq, Hash)]
 pub struct Scale {
     pub base: u32,
     pub digits: u32,
@@ -54,30 +60,9 @@ pub struct Scale {
 }
 
 // An admitted format with its scale and its highest place, emax - emin.
-#[derive(Clone, Copy)]
+#[derive(Clone, Copy, Debug, PartialEq, Eq, Hash)]
 pub struct Prepared {
     pub format: Format,
     pub scale: Scale,
     pub highest: u32,
-}
-
-// An examined format: prepared, or refused.
-#[derive(Clone, Copy)]
-pub enum Preparation {
-    Ready(Prepared),
-    Refused(Refusal),
-}
-
-// A format that was asked for by its number.
-#[derive(Clone, Copy)]
-pub enum FormatAnswer {
-    Found(Format),
-    Refused(Refusal),
-}
-
-// An examination that has no other result.
-#[derive(Clone, Copy)]
-pub enum Verdict {
-    Passed,
-    Refused(Refusal),
 }

@@ -43,7 +43,8 @@ pub fn fits(base: u32, k: u32) -> bool
 }
 
 // base^k by repeated squaring: the product of the squares base^(2^i) whose bit of k is set. The last one is not squared again: that
-// might not fit.
+// might not fit. Not the library's `pow`: the edits one_multiplication_too_few and every_other_bit_of_the_exponent_is_skipped are of
+// these turns.
 fn repeated(base: u32, k: u32) -> Significand
     requires { (2 ≤ base) × (base ≤ 256) × (base ^ k ≤ greatest_power) }
     ensures { result ≡ base ^ k }
@@ -72,7 +73,7 @@ pub fn power(base: u32, k: u32) -> Significand
     repeated(base, k)
 }
 
-// How many zeros m ends in, by taking them off.
+// How many zeros m ends in, by taking them off. The loop goes over no list: each turn divides what the turn before left.
 fn zeros_by_division(base: u32, m: Significand) -> u32
     requires { (2 ≤ base) × (1 ≤ m) }
     ensures { result ≡ zeros base m }

@@ -1,9 +1,9 @@
 // The published formats: a constant table, looked up by number.
 ghost use Rattle.std.specs.Prelude.{◌≡◌};
-ghost use Rattle.format.specs.Given.{format_given};
+ghost use Rattle.format.specs.Given.{given};
 ghost use Rattle.format.specs.Published.{published_format};
 
-use crate::{Format, FormatAnswer, Refusal};
+use crate::{Format, Refusal};
 
 // binary16, binary32, decimal32, binary64 and decimal64, under the numbers 1 to 5.
 const FORMATS: [Format; 5] = [
@@ -40,16 +40,14 @@ const FORMATS: [Format; 5] = [
 ];
 
 // The format that is published under `number`. Refuses 10.
-pub fn published(number: u32) -> FormatAnswer
-    ensures { format_given result ≡ published_format number }
+pub fn published(number: u32) -> Result<Format, Refusal>
+    ensures { given result ≡ published_format number }
 {
     if number < 1 {
-        return FormatAnswer::Refused(Refusal::NoSuchFormat);
+        return Err(Refusal::NoSuchFormat);
     }
     if 5 < number {
-        return FormatAnswer::Refused(Refusal::NoSuchFormat);
+        return Err(Refusal::NoSuchFormat);
     }
-    let at = (number - 1) as usize;
-    let format = FORMATS[at];
-    FormatAnswer::Found(format)
+    Ok(FORMATS[(number - 1) as usize])
 }

@@ -1,31 +1,35 @@
-// The number of each refusal.
+// The number of each refusal, and what a refusal is made of.
 ghost use Rattle.std.specs.Prelude.{◌≡◌};
+ghost use Rattle.format.specs.declared.ListRefusal.TheVariants.{Whole};
+ghost use Rattle.format.specs.declared.Refusal.TheVariants.{NoSuchDirection};
 ghost use Rattle.format.specs.Refusals.{refusal_number};
 
-use crate::Refusal;
+use crate::{ListRefusal, Refusal};
+use theory::NoDirection;
 
 // The number that the papers give to a refusal.
-pub fn refusal_number(refusal: Refusal) -> u32
-    ensures { result ≡ refusal_number refusal }
-{
-    match refusal {
-        Refusal::FormatNotAdmitted => 1,
-        Refusal::NoSuchDirection => 2,
-        Refusal::NumberNotInFormat => 3,
-        Refusal::DivisorZero => 4,
-        Refusal::TooLarge => 5,
-        Refusal::NotBinary => 6,
-        Refusal::SmallerFirst => 7,
-        Refusal::PremiseFails => 8,
-        Refusal::NotFinite => 9,
-        Refusal::NoSuchFormat => 10,
-        Refusal::LengthsDiffer => 11,
-        Refusal::ListLength => 12,
-        Refusal::ListDescends => 13,
-        Refusal::OutTooShort => 14,
-        Refusal::ListRepeats => 15,
-        Refusal::QueriesDescend => 16,
-        Refusal::StretchOutside => 17,
-        Refusal::StripCount => 18,
+impl From<Refusal> for u32 {
+    ghost from_gives = { λ refusal number. number ≡ refusal_number refusal };
+
+    fn from(refusal: Refusal) -> u32 {
+        refusal as u32
+    }
+}
+
+// A number that is no direction's is refused by 2.
+impl From<NoDirection> for Refusal {
+    ghost from_gives = { λ _ refusal. refusal ≡ NoSuchDirection };
+
+    fn from(_: NoDirection) -> Refusal {
+        Refusal::NoSuchDirection
+    }
+}
+
+// A call that is refused as a whole.
+impl From<Refusal> for ListRefusal {
+    ghost from_gives = { λ why refusal. refusal ≡ Whole why };
+
+    fn from(why: Refusal) -> ListRefusal {
+        ListRefusal::Whole(why)
     }
 }

@@ -1,5 +1,5 @@
 -- Input in blocks is the whole input: what is printed block by block, and at the end, is what is printed for its lines.
-use Rattle.theory.proofs.Prelude.{ℕ, ◌≤◌, true, false, Bool, cond, [], ◌∷◌, List, ◌++◌, append-nil, append_assoc, ◌∙◌, ap, ◌≡◌, sym, refl, ap₂, arith, eqb, ne_eqb}
+use Rattle.theory.proofs.Prelude.{ℕ, true, false, Bool, cond, [], ◌∷◌, List, ◌++◌, append-nil, append_assoc, ◌∙◌, ap, ◌≡◌, sym, refl, ap₂, arith, eqb}
 use mathlib.Core.List.{flatten}
 use Rattle.lines.specs.declared.reading.Line.{Line}
 use Rattle.lines.specs.Reading.{fresh, pushed}
@@ -11,9 +11,7 @@ use Rattle.lines.proofs.LineLaws.{pushed_all, line_of, line_snoc, line_printed, 
 end_printed : (seen : List ℕ) → end_text (line_of seen) ≡ printed_lines (lines_from seen [])
 unfolding end_text printed_lines lines_from pushed_all
 end_printed [] = refl
-end_printed (b ∷ bs) =
-    let some : 1 ≤ (line_of (b ∷ bs)).count = some_byte (b ∷ bs) (omega arith) in
-    rw (ne_eqb (line_of (b ∷ bs)).count 0 (λ e. omega arith), line_printed (b ∷ bs)) (sym (append-nil (printed (b ∷ bs) ++ line_feed)))
+end_printed (b ∷ bs) = rw (some_byte (b ∷ bs) (omega arith), line_printed (b ∷ bs)) (sym (append-nil (printed (b ∷ bs) ++ line_feed)))
 
 -- a block, with what comes after it
 module _ (next : Line → List ℕ) (more : List ℕ) (goes_on : (seen : List ℕ) → next (line_of seen) ≡ printed_lines (lines_from seen more)) where

@@ -1,52 +1,44 @@
--- Every byte is tried: the digit that is read of it, and the letter of each digit.
-use Rattle.theory.proofs.Prelude.{ℕ, ◌≤◌, ◌<◌, ◌+◌, ◌*◌, suc, zero, ◌%◌, ◌/◌, true, Bool, cond, [], ◌∷◌, List, ⊎_elim, ◌∙◌, ◌≡◌, sym, refl, subst, eq-or-lt_of_le, arith, eqb, leb, get_or, ne_eqb, eq-eqb, le-leb, lt-leb, eqb-true}
+-- Every byte is tried: the digit that the library reads of it, and the letter of each digit.
+use Rattle.theory.proofs.Prelude.{ℕ, ◌<◌, ◌≤◌, Bool, cond, true, false, [], ◌∷◌, List, ltb, eqb, get_or, ◌≡◌, refl, arith, eqb-true, lt-ltb, le-ltb, ltb-true}
+use Rattle.std.proofs.lemmas.Bool.{agree_below_at}
+use Rattle.std.proofs.lemmas.Option.{cond_some}
+use Rattle.std.specs.Prelude.{Option, Some, None, SomeIff}
+use Rattle.std.specs.Char.{digit_value}
 use Rattle.theory.specs.Tests.{◌and◌}
-use Rattle.theory.proofs.Tests.{and_left, and_right}
-use Rattle.lines.specs.Digits.{digit_of, glyph}
+use Rattle.lines.specs.Digits.{digit_of, is_digit, digit_in, glyph}
 
--- a test of each number below n
-below : (ℕ → Bool) → ℕ → Bool
-below test zero = true
-below test (suc n) = test n and below test n
+of_value : (d v : ℕ) (r : Option ℕ) → d ≡ cond (ltb v 16) v 16 → SomeIff r (v < 16) v → r ≡ cond (ltb d 16) (Some d) None
+of_value d v None e n = let h : 16 ≤ v = omega arith in rw (e, le-ltb v 16 h)
+of_value d v (Some x) e h = rw (e, lt-ltb v 16 h.0, lt-ltb v 16 h.0, h.1)
 
-tried : (test : ℕ → Bool) (n : ℕ) → below test n ≡ true → (k : ℕ) → k < n → test k ≡ true
-unfolding below
-tried test zero h k l = absurd (omega arith)
-tried test (suc n) h k l =
-    ⊎_elim (λ e. subst (λ (i : ℕ). test i ≡ true) (sym e) (and_left _ _ h)) (λ m. tried test n (and_right (test n) _ h) k m) (eq-or-lt_of_le (upto l))
+-- the library's digits below 16 are those of `digit_of`
+pub digit_read : (b : ℕ) (r : Option ℕ) → b < 256 → SomeIff r (digit_value b < 16) (digit_value b) → r ≡ digit_in b
+unfolding digit_of digit_in is_digit ◌and◌
+digit_read b r h e =
+    of_value (digit_of b) (digit_value b) r
+    (eqb-true _ _ (agree_below_at (λ b. eqb (digit_of b) (cond (ltb (digit_value b) 16) (digit_value b) 16)) (λ b. true) 256 b refl h))
+    e
+
+-- a byte that is read as a digit, and one that is not
+pub some_digit : (b : ℕ) {d : ℕ} → digit_in b ≡ Some d → (is_digit b ≡ true) × (digit_of b ≡ d)
+unfolding digit_in
+some_digit b e = cond_some _ _ _ e
+
+pub small_digit : (b : ℕ) {d : ℕ} → digit_in b ≡ Some d → d < 16
+unfolding is_digit
+small_digit b e = let h = some_digit b e in omega (arith, ltb-true (digit_of b) 16 h.0, h.1)
+
+pub no_digit : (b : ℕ) → digit_in b ≡ None → is_digit b ≡ false
+unfolding digit_in
+no_digit b e = by (is_digit b) e
   where
-    upto : k < suc n → k ≤ n
-    upto l = omega arith
+    by : (t : Bool) → cond t (Some (digit_of b)) None ≡ None → t ≡ false
+    by true e = cc
+    by false e = refl
 
 -- `0123456789abcdef`
-abbrev letters : List ℕ
+abbrev pub letters : List ℕ
 letters = 48 ∷ 49 ∷ 50 ∷ 51 ∷ 52 ∷ 53 ∷ 54 ∷ 55 ∷ 56 ∷ 57 ∷ 97 ∷ 98 ∷ 99 ∷ 100 ∷ 101 ∷ 102 ∷ []
 
-abbrev pub letter : ℕ → ℕ
-letter n = get_or letters (n % 16) 0
-
-pub letter_is : (n : ℕ) → letter n ≡ glyph (n % 16)
-unfolding below ◌and◌
-letter_is n = eqb-true _ _ (tried (λ d. eqb (get_or letters d 0) (glyph d)) 16 refl (n % 16) (omega arith))
-
--- what digit_of answers
-abbrev candidate : ℕ → ℕ
-candidate b = b % 16 + b / 64 * 9
-
-abbrev answered : ℕ → ℕ
-answered b = cond (leb 16 (candidate b)) 16 (cond (eqb (glyph (candidate b % 16)) (cond (eqb (b / 32) 2) (b + 32) b)) (candidate b) 16)
-
-module _ (b : ℕ) (h : b < 256) where
-  digit_is : answered b ≡ digit_of b
-  unfolding below ◌and◌ digit_of
-  digit_is = eqb-true _ _ (tried (λ b. eqb (answered b) (digit_of b)) 256 refl b h)
-
-  pub no_value : 16 ≤ candidate b → 16 ≡ digit_of b
-  no_value l = let e : answered b ≡ 16 = rw (le-leb 16 (candidate b) l) in sym e ∙ digit_is
-
-  module _ {x y : ℕ} (l : candidate b < 16) (shown : x ≡ glyph (candidate b % 16)) (lower : y ≡ cond (eqb (b / 32) 2) (b + 32) b) where
-    pub another : (x ≡ y → ⊥) → 16 ≡ digit_of b
-    another n = let e : answered b ≡ 16 = rw (lt-leb 16 (candidate b) l, sym shown, sym lower, ne_eqb x y n) in sym e ∙ digit_is
-
-    pub its_letter : x ≡ y → candidate b ≡ digit_of b
-    its_letter n = let e : answered b ≡ candidate b = rw (lt-leb 16 (candidate b) l, sym shown, sym lower, eq-eqb x y n) in sym e ∙ digit_is
+pub letter_is : (d : ℕ) → d < 16 → get_or letters d 0 ≡ glyph d
+letter_is d h = eqb-true _ _ (agree_below_at (λ d. eqb (get_or letters d 0) (glyph d)) (λ d. true) 16 d refl h)

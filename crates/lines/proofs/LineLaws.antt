@@ -7,7 +7,8 @@ use Rattle.theory.proofs.Powers.{pow_mono}
 use Rattle.lines.specs.declared.reading.Line.{Line}
 use Rattle.lines.specs.Digits.{digit_of, is_digit}
 use Rattle.lines.specs.Reading.{is_pattern, value_from, digits_value, known, fresh, bad, pushed}
-use Rattle.lines.specs.Printing.{printed, text_of}
+use Rattle.lines.specs.Printing.{printed, text_of, line_feed}
+use Rattle.lines.specs.Blocks.{end_text}
 
 -- what is known of a line after more bytes, and of the bytes of a whole line
 unfoldable pub pushed_all : Line → List ℕ → Line
@@ -28,7 +29,7 @@ unfolding pushed_all pushed ◌and◌
 bad_stays [] = refl
 bad_stays (b ∷ bs) = bad_stays bs
 
-and_false : (t : Bool) → (t and false) ≡ false
+pub and_false : (t : Bool) → (t and false) ≡ false
 unfolding ◌and◌
 and_false true = refl
 and_false false = refl
@@ -71,10 +72,11 @@ module _ (bs : List ℕ) where
       by true d (yes h) = rw (d, le-leb (length bs) 8 h)
       by true d (no h) = rw (d, lt-leb (length bs) 8 (omega arith), ne_eqb (length bs) 8 (λ e. omega arith))
 
-  -- a line that has begun
-  pub some_byte : 1 ≤ length bs → 1 ≤ (line_of bs).count
+  -- a line that has begun is printed at the end of input
+  pub some_byte : 1 ≤ length bs → end_text (line_of bs) ≡ text_of (line_of bs) ++ line_feed
+  unfolding end_text
   some_byte h = rw line_known (by (all is_digit bs and leb (length bs) 8))
     where
-      by : (t : Bool) → 1 ≤ (cond t (known (length bs) (digits_value bs)) bad).count
-      by true = h
-      by false = omega arith
+      by : (t : Bool) → end_text (cond t (known (length bs) (digits_value bs)) bad) ≡ text_of (cond t (known (length bs) (digits_value bs)) bad) ++ line_feed
+      by true = rw (ne_eqb (length bs) 0 (λ e. omega arith))
+      by false = refl

@@ -1,6 +1,7 @@
 -- Input as lines, and input that comes in blocks.
 use Rattle.std.specs.Prelude.{ℕ, cond, List, [], ◌∷◌, ◌++◌, eqb}
 use Rattle.lines.specs.declared.reading.Line.{Line}
+use Rattle.lines.specs.declared.reading.Line.TheVariants.{Digits, Bad}
 use Rattle.lines.specs.Reading.{fresh, pushed}
 use Rattle.lines.specs.Printing.{printed, text_of, line_feed}
 
@@ -36,7 +37,8 @@ begun l (b ∷ bs) = cond (eqb b 10) (begun fresh bs) (begun (pushed l b) bs)
 
 -- the bytes printed at the end of input
 unfoldable pub end_text : Line → List ℕ
-end_text l = cond (eqb l.count 0) [] (text_of l ++ line_feed)
+end_text (Digits count value) = cond (eqb count 0) [] (text_of (Digits count value) ++ line_feed)
+end_text Bad = text_of Bad ++ line_feed
 
 -- the bytes printed while blocks come, and at the end of input
 unfoldable pub printed_blocks : Line → List (List ℕ) → List ℕ

@@ -1,5 +1,5 @@
 -- Hexadecimal digits as bytes of a text, which are those of ASCII.
-use Rattle.std.specs.Prelude.{ℕ, zero, suc, ◌+◌, ◌-◌, ◌/◌, ◌%◌, ◌^◌, Bool, cond, List, [], ◌∷◌, leb, ltb}
+use Rattle.std.specs.Prelude.{ℕ, zero, suc, ◌+◌, ◌-◌, ◌/◌, ◌%◌, ◌^◌, Bool, cond, List, [], ◌∷◌, leb, ltb, Option, Some, None}
 use Rattle.theory.specs.Tests.{◌and◌}
 
 -- ---- read
@@ -12,6 +12,10 @@ digit_of b = cond (between 48 57 b) (b - 48) (cond (between 65 70 b) (b - 65 + 1
 
 unfoldable pub is_digit : ℕ → Bool
 is_digit b = ltb (digit_of b) 16
+
+-- the value of a byte that is a digit
+unfoldable pub digit_in : ℕ → Option ℕ
+digit_in b = cond (is_digit b) (Some (digit_of b)) None
 
 -- ---- printed
 -- a digit, letters in lower case

@@ -6,6 +6,7 @@ use Rattle.number.specs.declared.Number.{Number}
 use Rattle.binary32.specs.Patterns.{pattern_read}
 use Rattle.binary32.specs.Places.{PlacesGiven, places_of}
 use Rattle.lines.specs.declared.reading.Line.{Line}
+use Rattle.lines.specs.declared.reading.Line.TheVariants.{Digits, Bad}
 use Rattle.lines.specs.Digits.{low_digits, decimal}
 use Rattle.lines.specs.Reading.{is_pattern, digits_value}
 
@@ -52,7 +53,8 @@ printed line = cond (is_pattern line) (pattern_text (digits_value line)) bad_lin
 
 -- for what is known of a line when it ends
 unfoldable pub text_of : Line → List ℕ
-text_of l = cond (eqb l.count 8) (pattern_text l.value) bad_line
+text_of (Digits count value) = cond (eqb count 8) (pattern_text value) bad_line
+text_of Bad = bad_line
 
 -- ---- what a function stores
 -- a text of at most so many bytes, stored in a list from a position on, and the position after it; the rest of the list is as it was

@@ -3,6 +3,7 @@ use Rattle.std.specs.Prelude.{ℕ, ◌+◌, ◌*◌, ◌%◌, ◌^◌, Bool, con
 use Rattle.theory.specs.Lists.{all}
 use Rattle.theory.specs.Tests.{◌and◌}
 use Rattle.lines.specs.declared.reading.Line.{Line}
+use Rattle.lines.specs.declared.reading.Line.TheVariants.{Digits, Bad}
 use Rattle.lines.specs.Digits.{digit_of, is_digit}
 
 -- ---- a whole line
@@ -20,14 +21,15 @@ digits_value line = value_from 0 line
 
 -- ---- byte by byte
 abbrev pub known : (count value : ℕ) → Line
-known count value = record { count = count; value = value }
+known count value = Digits count value
 
 abbrev pub fresh : Line
 fresh = known 0 0
 
 abbrev pub bad : Line
-bad = known 9 0
+bad = Bad
 
 -- one byte more
 unfoldable pub pushed : Line → ℕ → Line
-pushed l b = cond (ltb l.count 8 and is_digit b) (known (l.count + 1) (l.value % 2 ^ 28 * 16 + digit_of b)) bad
+pushed (Digits count value) b = cond (ltb count 8 and is_digit b) (known (count + 1) (value % 2 ^ 28 * 16 + digit_of b)) bad
+pushed Bad b = bad

@@ -4,7 +4,7 @@ ghost use Rattle.lines.specs.Printing.{Put};
 ghost use Rattle.lines.specs.Blocks.{ended, begun, end_text};
 
 use crate::printing::put_line;
-use crate::reading::{Line, new_line, push};
+use crate::reading::Line;
 
 // The line that is begun where a block of input ends, and how many bytes were printed for the lines that ended in it.
 #[derive(Clone, Copy)]
@@ -19,22 +19,16 @@ pub fn answer_block(first: Line, input: &[u8], out: &mut [u8]) -> Block
     ensures { (result.line ≡ begun first input.now) × Put 0 (45 * length input.now) (ended first input.now) out.old result.printed out.new }
 {
     let mut line = first;
-    let mut at = 0;
-    let mut i = 0;
-    while i < input.len() {
-        let b = input[i];
-        i += 1;
-        if b == 10 {
-            at = put_line(out, at, line);
-            line = new_line();
+    let mut printed = 0;
+    for &b in input {
+        if b == b'\n' {
+            printed = put_line(out, printed, line);
+            line = Line::new();
         } else {
-            line = push(line, b);
+            line = line.push(b);
         }
     }
-    Block {
-        line: line,
-        printed: at,
-    }
+    Block { line, printed }
 }
 
 // The end of input ends a line that has begun.
@@ -42,8 +36,8 @@ pub fn answer_end(line: Line, out: &mut [u8]) -> usize
     requires { 45 ≤ length out.old }
     ensures { Put 0 45 (end_text line) out.old result out.new }
 {
-    if line.count == 0 {
-        return 0;
+    match line {
+        Line::Digits { count, .. } if count == 0 => 0,
+        _ => put_line(out, 0, line),
     }
-    put_line(out, 0, line)
 }

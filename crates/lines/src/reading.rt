@@ -4,33 +4,31 @@ ghost use Rattle.lines.specs.Reading.{fresh, pushed};
 
 use crate::digits::digit_of;
 
-// What is known of a line that is being read: the number of its digits, or 9 where it is bad, and their value.
+// What is known of a line that is being read: how many digits it has, at most eight, and their value, or that it is bad.
 #[derive(Clone, Copy)]
-pub struct Line {
-    pub count: u32,
-    pub value: u32,
+pub enum Line {
+    Digits { count: u32, value: u32 },
+    Bad,
 }
 
-// The line before its first byte.
-pub fn new_line() -> Line
-    ensures { result ≡ fresh }
-{
-    Line { count: 0, value: 0 }
-}
+impl Line {
+    // The line before its first byte.
+    pub fn new() -> Line
+        ensures { result ≡ fresh }
+    {
+        Line::Digits { count: 0, value: 0 }
+    }
 
-// The line with one byte more.
-pub fn push(line: Line, b: u8) -> Line
-    ensures { result ≡ pushed line b }
-{
-    let digit = digit_of(b);
-    if 8 <= line.count {
-        return Line { count: 9, value: 0 };
-    }
-    if 16 <= digit {
-        return Line { count: 9, value: 0 };
-    }
-    Line {
-        count: line.count + 1,
-        value: line.value % 268435456 * 16 + digit,
+    // The line with one byte more.
+    pub fn push(self, b: u8) -> Line
+        ensures { result ≡ pushed self b }
+    {
+        match (self, digit_of(b)) {
+            (Line::Digits { count, value }, Some(digit)) if count < 8 => Line::Digits {
+                count: count + 1,
+                value: value % 268435456 * 16 + digit,
+            },
+            _ => Line::Bad,
+        }
     }
 }

@@ -1,6 +1,6 @@
 // Standard input to standard output: each line of the input is answered by a line.
 use crate::blocks::{answer_block, answer_end};
-use crate::reading::new_line;
+use crate::reading::Line;
 use std::io::Read;
 
 // Reads block by block until the input ends, and stops with a word on standard error where it cannot read or write any more. A proved loop
@@ -9,7 +9,7 @@ pub fn answer_input(rt: &(impl Input + Print + Eprint)) {
     let mut stdin = rt.reader();
     let mut input = [0u8; 16384];
     let mut out = [0u8; 737280];
-    let mut line = new_line();
+    let mut line = Line::new();
     for _ in 0..u64::MAX {
         let Ok(n) = stdin.read(&mut input) else {
             report_unread(rt);
@@ -19,8 +19,7 @@ pub fn answer_input(rt: &(impl Input + Print + Eprint)) {
             break;
         }
         let block = answer_block(line, &input[..n], &mut out);
-        let printed = block.printed;
-        if !print(rt, &out[..printed]) {
+        if !print(rt, &out[..block.printed]) {
             return;
         }
         line = block.line;

@@ -7,8 +7,8 @@ use Rattle.theory.proofs.Integers.{lt_parts, parts_lt}
 use Rattle.number.proofs.Prelude.{Format, Given, gives, admitted, admits, member, magnitude, value, members}
 use Rattle.number.specs.declared.Number.{Number}
 use Rattle.format.proofs.GivenLaws.{gives_same, gives_not_refused}
-use Rattle.number.specs.declared.Ordering.{Ordering}
-use Rattle.number.specs.declared.Ordering.TheVariants.{Less, Equal, Greater}
+use Rattle.std.specs.declared.cmp.Ordering.{Ordering}
+use Rattle.std.specs.declared.cmp.Ordering.TheVariants.{Less, Equal, Greater}
 use Rattle.number.specs.Checks.{Checks, not_admitted, no_direction, not_member, all_passed}
 use Rattle.number.specs.Order.{order_z, compared}
 use Rattle.number.proofs.Values.{member_zeros}

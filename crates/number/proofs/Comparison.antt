@@ -6,8 +6,8 @@ use Rattle.theory.proofs.Powers.{pow_pos, pow_pred, pow_mono}
 use Rattle.number.proofs.Prelude.{Format, Admitted, place_of, magnitude, Member}
 use Rattle.number.specs.declared.Number.{Number}
 use Rattle.format.proofs.Signed.{Upto, Under, apart, lt_true, lt_false, make_lt, make_ge}
-use Rattle.number.specs.declared.Ordering.{Ordering}
-use Rattle.number.specs.declared.Ordering.TheVariants.{Less, Equal, Greater}
+use Rattle.std.specs.declared.cmp.Ordering.{Ordering}
+use Rattle.std.specs.declared.cmp.Ordering.TheVariants.{Less, Equal, Greater}
 use Rattle.number.specs.Order.{ordered, order_n, order_z}
 
 -- digits of a higher place outweigh all below

@@ -6,5 +6,4 @@ pub mod Prelude
 pub mod Comparison
 pub mod Compared
 pub mod Negation
-pub mod AnswerLaws
 pub mod PatternLaws

@@ -1,17 +1,16 @@
 -- The checks that every call begins with, in the order of document 01: the format (1), the directions (2), the numbers (3).
-use Rattle.std.specs.Prelude.{ℕ, ◌≡◌, Bool, true, false, List, leb, ltb}
+use Rattle.std.specs.Prelude.{ℕ, ◌≡◌, Bool, true, false, List, [], ◌∷◌, leb, ltb, Result, Ok, Err}
+use Rattle.theory.specs.declared.Direction.{Direction}
 use Rattle.std.specs.Int.Signed.{le_z}
 use Rattle.theory.specs.Tests.{◌and◌, ◌or◌, unless}
 use Rattle.theory.specs.Lists.{all}
 use Rattle.format.specs.declared.Format.{Format}
 use Rattle.format.specs.declared.Prepared.{Prepared}
-use Rattle.format.specs.declared.Preparation.{Preparation}
-use Rattle.format.specs.declared.Preparation.TheVariants.{Ready, Refused}
 use Rattle.format.specs.declared.Refusal.{Refusal}
 use Rattle.format.specs.declared.Refusal.TheVariants.{FormatNotAdmitted, NoSuchDirection, NumberNotInFormat}
 use Rattle.format.specs.Given.{Given, refused}
 use Rattle.format.specs.Formats.{admitted, prepared_of}
-use Rattle.format.specs.Directions.{is_direction}
+use Rattle.format.specs.Directions.{is_direction, direction}
 use Rattle.number.specs.declared.Number.{Number}
 use Rattle.number.specs.Numbers.{equal_z, member}
 
@@ -30,11 +29,6 @@ pub data Checks {A : Type 0} (f : Format) (directions : List ℕ) (numbers : Lis
   all_passed : admitted f ≡ true → all is_direction directions ≡ true → all (member f) numbers ≡ true → Checks f directions numbers go_on go_on
 
 -- ---- for inner functions: the checks as the code makes them, one after the other
--- one check more: the refusal that stands, or this one unless the prepared format passes
-abbrev pub further : Refusal → (Prepared → Bool) → Preparation → Preparation
-further refusal test (Refused why) = Refused why
-further refusal test (Ready q) = unless (test q) (Refused refusal) (Ready q)
-
 -- x is in the format that was prepared
 unfoldable pub member_of : Prepared → Number → Bool
 member_of q x =
@@ -42,11 +36,19 @@ member_of q x =
     or equal_z x.exponent q.format.emin and ltb x.significand q.scale.least
 
 -- the format, prepared, or the first of these refusals
-unfoldable pub entered : Format → (directions : List ℕ) (numbers : List Number) → Preparation
+unfoldable pub entered : Format → (directions : List ℕ) (numbers : List Number) → Result Prepared Refusal
 entered f directions numbers =
-    unless (admitted f) (Refused FormatNotAdmitted)
-    (unless (all is_direction directions) (Refused NoSuchDirection)
-    (unless (all (member f) numbers) (Refused NumberNotInFormat) (Ready (prepared_of f))))
+    unless (admitted f) (Err FormatNotAdmitted)
+    (unless (all is_direction directions) (Err NoSuchDirection)
+    (unless (all (member f) numbers) (Err NumberNotInFormat) (Ok (prepared_of f))))
+
+-- the same with one direction, which goes with the prepared format
+abbrev pub beside : Direction → Result Prepared Refusal → Result (Prepared × Direction) Refusal
+beside k (Ok q) = Ok (q, k)
+beside k (Err why) = Err why
+
+unfoldable pub directed : Format → (direction : ℕ) (numbers : List Number) → Result (Prepared × Direction) Refusal
+directed f d numbers = beside (direction d) (entered f (d ∷ []) numbers)
 
 -- what a passed check hands to the inner functions: an admitted format, prepared
 pub record Usable (q : Prepared) : Type 0 where

@@ -1,6 +1,5 @@
 -- Numbers and their values, and what the calls of this crate answer.
 pub mod Exponents
-pub mod Answers
 pub mod Numbers
 pub mod Checks
 pub mod Order

@@ -4,8 +4,8 @@ use Rattle.std.specs.Int.Signed.{lt_z}
 use Rattle.format.specs.declared.Format.{Format}
 use Rattle.format.specs.Given.{Given, gives}
 use Rattle.number.specs.declared.Number.{Number}
-use Rattle.number.specs.declared.Ordering.{Ordering}
-use Rattle.number.specs.declared.Ordering.TheVariants.{Less, Equal, Greater}
+use Rattle.std.specs.declared.cmp.Ordering.{Ordering}
+use Rattle.std.specs.declared.cmp.Ordering.TheVariants.{Less, Equal, Greater}
 use Rattle.number.specs.Numbers.{value}
 use Rattle.number.specs.Checks.{checked}
 

@@ -1,12 +1,12 @@
 // A significand at a place, as a number of the format.
 ghost use Rattle.std.specs.Prelude.{◌≡◌, ◌≤◌, ◌*◌, ◌^◌};
 ghost use Rattle.theory.specs.Wide.{Canonical};
-ghost use Rattle.number.specs.Answers.{number_given};
+ghost use Rattle.format.specs.Given.{given};
 ghost use Rattle.number.specs.Checks.{Usable};
 ghost use Rattle.number.specs.Numbers.{number, delivered};
 
+use crate::Number;
 use crate::exponents::exponent_at;
-use crate::{Number, NumberAnswer};
 use format::{Prepared, Refusal, Significand};
 
 // The number significand * base^place in units of base^emin.
@@ -16,9 +16,9 @@ pub fn number_at(prepared: Prepared, negative: bool, significand: Significand, p
 {
     let exponent = exponent_at(prepared.format.emin, place);
     Number {
-        negative: negative,
-        significand: significand,
-        exponent: exponent,
+        negative,
+        significand,
+        exponent,
     }
 }
 
@@ -28,12 +28,12 @@ pub fn deliver(
     negative: bool,
     significand: Significand,
     place: u32,
-) -> NumberAnswer
+) -> Result<Number, Refusal>
     requires { Usable prepared × Canonical prepared.format.base prepared.format.digits significand place }
-    ensures { number_given result ≡ delivered prepared.format negative (significand * prepared.format.base ^ place) }
+    ensures { given result ≡ delivered prepared.format negative (significand * prepared.format.base ^ place) }
 {
     if prepared.highest < place {
-        return NumberAnswer::Refused(Refusal::TooLarge);
+        return Err(Refusal::TooLarge);
     }
-    NumberAnswer::Value(number_at(prepared, negative, significand, place))
+    Ok(number_at(prepared, negative, significand, place))
 }

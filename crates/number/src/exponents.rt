@@ -29,7 +29,7 @@ pub fn exponent_at(emin: i32, place: u32) -> i32
 pub fn above_zero(e: i32) -> u32
     ensures { result ≡ above_zero e }
 {
-    if 0 < e { e as u32 } else { 0 }
+    e.max(0).unsigned_abs()
 }
 
 // -e where e is below zero, else 0.
@@ -37,5 +37,5 @@ pub fn below_zero(e: i32) -> u32
     requires { exponents_admitted e e ≡ true }
     ensures { result ≡ below_zero e }
 {
-    if e < 0 { -e as u32 } else { 0 }
+    e.min(0).unsigned_abs()
 }

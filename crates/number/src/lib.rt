@@ -10,50 +10,13 @@ pub mod order;
 pub mod patterns;
 pub mod signs;
 
-use format::{Refusal, Significand};
+use format::Significand;
 
 // The value (-1)^negative * significand * base^exponent.
 #[repr(C)]
-#[derive(Clone, Copy)]
+#[derive(Clone, Copy, Debug, PartialEq, Eq, Hash)]
 pub struct Number {
     pub negative: bool,
     pub significand: Significand,
     pub exponent: i32,
-}
-
-// A number, or why there is none.
-#[derive(Clone, Copy)]
-pub enum NumberAnswer {
-    Value(Number),
-    Refused(Refusal),
-}
-
-// A pattern of 32 bits, or why there is none.
-#[derive(Clone, Copy)]
-pub enum PatternAnswer {
-    Written(u32),
-    Refused(Refusal),
-}
-
-// How the first of two numbers stands to the second.
-#[derive(Clone, Copy)]
-pub enum Ordering {
-    Less,
-    Equal,
-    Greater,
-}
-
-// That order, or why there is none.
-#[derive(Clone, Copy)]
-pub enum OrderAnswer {
-    Ordered(Ordering),
-    Refused(Refusal),
-}
-
-// Yes or no, or why there is neither.
-#[derive(Clone, Copy)]
-pub enum CheckAnswer {
-    Yes,
-    No,
-    Refused(Refusal),
 }

@@ -2,12 +2,13 @@
 ghost use Rattle.std.specs.Prelude.{◌≡◌, true};
 ghost use Rattle.format.specs.Formats.{admitted};
 ghost use Rattle.number.specs.Numbers.{equal_z, member, magnitude, value};
-ghost use Rattle.number.specs.Answers.{order_given};
+ghost use Rattle.format.specs.Given.{given};
 ghost use Rattle.number.specs.Order.{order_n, order_z, compared};
 
+use crate::Number;
 use crate::checks::enter_two;
-use crate::{Number, OrderAnswer, Ordering};
-use format::{Format, Preparation};
+use format::{Format, Refusal};
+use std::cmp::Ordering;
 
 // By magnitude: first the exponents, then the significands.
 pub fn compare_magnitudes(format: Format, a: Number, b: Number) -> Ordering
@@ -59,19 +60,13 @@ pub fn same_value(format: Format, a: Number, b: Number) -> bool
     requires { (admitted format ≡ true) × (member format a ≡ true) × (member format b ≡ true) }
     ensures { result ≡ equal_z (value format a) (value format b) }
 {
-    match compare_values(format, a, b) {
-        Ordering::Less => false,
-        Ordering::Equal => true,
-        Ordering::Greater => false,
-    }
+    compare_values(format, a, b) == Ordering::Equal
 }
 
 // Which of two numbers is the greater? Refuses 1, 3.
-pub fn compare(format: Format, a: Number, b: Number) -> OrderAnswer
-    ensures { order_given result ≡ compared format a b }
+pub fn compare(format: Format, a: Number, b: Number) -> Result<Ordering, Refusal>
+    ensures { given result ≡ compared format a b }
 {
-    match enter_two(format, a, b) {
-        Preparation::Refused(why) => OrderAnswer::Refused(why),
-        Preparation::Ready(_) => OrderAnswer::Ordered(compare_values(format, a, b)),
-    }
+    enter_two(format, a, b)?;
+    Ok(compare_values(format, a, b))
 }

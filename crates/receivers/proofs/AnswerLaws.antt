@@ -8,38 +8,39 @@ use Rattle.theory.specs.Tests.{◌and◌, unless}
 use Rattle.theory.specs.Lists.{first_where, none}
 use Rattle.theory.proofs.Tests.{never}
 use Rattle.theory.proofs.Lists.{first_before, first_passes}
-use Rattle.format.specs.Given.{Given, gives, refused, refused_at, ◌then◌}
+use Rattle.std.specs.Prelude.{Result, Ok, Err}
+use Rattle.format.specs.declared.ListRefusal.{ListRefusal}
+use Rattle.format.specs.declared.ListRefusal.TheVariants.{Whole, Entry}
+use Rattle.format.specs.Given.{Given, gives, refused, refused_at, given_at, ◌then◌}
 use Rattle.theory.proofs.Integers.{parts_le, parts_lt}
 use Rattle.format.proofs.Signed.{le_true, le_false}
 use Rattle.binary32.specs.Patterns.{finite, not_finite, pattern_value, pattern_values}
 use Rattle.binary32.proofs.PatternValues.{finite_made, finite_fails, all_finite, value_at, values_length}
-use Rattle.receivers.specs.declared.StretchCheck.{StretchCheck}
-use Rattle.receivers.specs.declared.StretchCheck.TheVariants as check
-use Rattle.receivers.specs.declared.Calmer.{Calmer}
-use Rattle.receivers.specs.declared.Calmer.TheVariants as calmer
-use Rattle.receivers.specs.Answers.{stretch_given, calmer_given}
+use Rattle.receivers.specs.declared.Log.{Log}
+use Rattle.receivers.specs.declared.Log.TheVariants.{First, Second}
+use Rattle.receivers.specs.Answers.{calmer_given}
 use Rattle.receivers.specs.Stretches.{greatest_of, least_of, spread, calm_as, stretch, not_refused, ends_within, finite_within, calmer_refusal, calmer_log, stretch_of, calmer_stretch}
 use Rattle.receivers.specs.Outcomes.{Within, FiniteFrom, FirstNotFinite, AtLeast, ExtremeWithin, spread_within, Spread, Ends, lengths_differ, outside, first_not_finite, second_not_finite, first_calmer, second_calmer, SameWithin}
 use Rattle.receivers.proofs.ExtremeLaws.{Extreme, greatest_is, least_is}
 use Rattle.receivers.proofs.Refusals.{ends, stretch_length, not_refused_law, not_refused_at}
 
 -- ---- what a caller has of an answer
-pub check_passed : (r : StretchCheck) → stretch_given r ≡ not_refused → r ≡ check.Passed
-check_passed check.Passed h = refl
-check_passed (check.Refused why) h = absurd (not_refused_law (sym h))
-check_passed (check.RefusedAt why index) h = absurd (not_refused_at (sym h))
+pub check_passed : (r : Result Unit ListRefusal) → given_at r ≡ not_refused → r ≡ Ok tt
+check_passed (Ok tt) h = refl
+check_passed (Err (Whole why)) h = absurd (not_refused_law (sym h))
+check_passed (Err (Entry why index)) h = absurd (not_refused_at (sym h))
 
-pub first_named : (r : Calmer) → calmer_given r ≡ gives 1 → r ≡ calmer.First
-first_named calmer.First h = refl
-first_named calmer.Second h = absurd (let z : ◌≡◌ {A = ℕ} 2 1 = cc in omega arith)
-first_named (calmer.Refused why) h = absurd (not_refused_law (sym h))
-first_named (calmer.RefusedAt why index) h = absurd (not_refused_at (sym h))
+pub first_named : (r : Result Log ListRefusal) → calmer_given r ≡ gives 1 → r ≡ Ok First
+first_named (Ok First) h = refl
+first_named (Ok Second) h = absurd (let z : ◌≡◌ {A = ℕ} 2 1 = cc in omega arith)
+first_named (Err (Whole why)) h = absurd (not_refused_law (sym h))
+first_named (Err (Entry why index)) h = absurd (not_refused_at (sym h))
 
-pub second_named : (r : Calmer) → calmer_given r ≡ gives 2 → r ≡ calmer.Second
-second_named calmer.First h = absurd (let z : ◌≡◌ {A = ℕ} 1 2 = cc in omega arith)
-second_named calmer.Second h = refl
-second_named (calmer.Refused why) h = absurd (not_refused_law (sym h))
-second_named (calmer.RefusedAt why index) h = absurd (not_refused_at (sym h))
+pub second_named : (r : Result Log ListRefusal) → calmer_given r ≡ gives 2 → r ≡ Ok Second
+second_named (Ok First) h = absurd (let z : ◌≡◌ {A = ℕ} 1 2 = cc in omega arith)
+second_named (Ok Second) h = refl
+second_named (Err (Whole why)) h = absurd (not_refused_law (sym h))
+second_named (Err (Entry why index)) h = absurd (not_refused_at (sym h))
 
 -- ---- the entries of a stretch
 -- entry i of the stretch is entry start + i of the log

@@ -4,10 +4,13 @@ use lib.Seq.{length-take-le}
 use Rattle.theory.specs.Tests.{unless}
 use Rattle.theory.specs.Lists.{first_where, none}
 use Rattle.theory.proofs.Tests.{and_left, and_right, and_made, refuted, unless_passed, unless_failed, denied, granted}
-use Rattle.format.specs.Given.{Given, gives, refused, refused_at, ◌then◌}
+use Rattle.format.specs.Given.{Given, gives, refused, refused_at, given_at, ◌then◌}
 use Rattle.binary32.specs.Patterns.{not_finite}
 use Rattle.receivers.specs.Stretches.{calm_as, stretch, not_refused, ends_within, finite_within, calmer_refusal, calmer_log, stretch_of, calmer_stretch}
-use Rattle.receivers.specs.declared.Calmer.{Calmer}
+use Rattle.std.specs.Prelude.{Result, Err}
+use Rattle.format.specs.declared.ListRefusal.{ListRefusal}
+use Rattle.format.specs.declared.ListRefusal.TheVariants.{Whole, Entry}
+use Rattle.receivers.specs.declared.Log.{Log}
 use Rattle.receivers.specs.Answers.{calmer_given}
 use Rattle.receivers.specs.Spreads.{Logged}
 
@@ -153,6 +156,12 @@ module _ (first second : List ℕ) (start n : ℕ) where
   pub second_told : gives 2 ≡ calmer_log first second start n → take (start + n - start) (drop start second) ≡ calmer_stretch first second start n
   second_told e = part_is second start n ∙ stretch_told e
 
+-- ---- what the code answers
+-- a refusal goes through what comes after it
+pub refused_on : {A B : Type 0} (e : ListRefusal) (next : A → Given B) → given_at {A = B} (Err e) ≡ (given_at {A = A} (Err e) then next)
+refused_on (Whole why) next = refl
+refused_on (Entry why index) next = refl
+
 -- what calmer_log gives in one of its cases
-pub log_case : {r named : Calmer} {k : Given ℕ} → r ≡ named → calmer_given r ≡ k → calmer_given named ≡ k
+pub log_case : {r named : Result Log ListRefusal} {k : Given ℕ} → r ≡ named → calmer_given r ≡ k → calmer_given named ≡ k
 log_case e f = ap calmer_given (sym e) ∙ f

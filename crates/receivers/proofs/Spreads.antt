@@ -1,10 +1,10 @@
 -- The extremes of a list as the code finds them, and spreads compared by sums.
-use Rattle.theory.proofs.Prelude.{ℕ, ◌≤◌, ◌<◌, ◌+◌, true, false, Bool, cond, [], ◌∷◌, List, ◌∙◌, ap, ◌≡◌, sym, refl, ap₂, add-one, arith, ℤ, ◌+ℤ◌, ◌-ℤ◌, length, get_or, drop, drop-cons, lt_z, le_z}
+use Rattle.theory.proofs.Prelude.{ℕ, ◌≤◌, ◌<◌, ◌+◌, true, false, Bool, cond, [], ◌∷◌, List, ◌∙◌, ap, ◌≡◌, sym, refl, ap₂, add-one, arith, ℤ, ◌+ℤ◌, ◌-ℤ◌, length, get_or, drop, take, drop-cons, lt_z, le_z, subst, ◌-◌}
 use lib.ListN.{drop_of_length-le}
 use Rattle.theory.proofs.Integers.{sum_parts, diff_parts}
 use Rattle.format.proofs.Signed.{le_true, le_false}
 use Rattle.binary32.specs.Patterns.{finite, pattern_value, pattern_values}
-use Rattle.binary32.proofs.PatternValues.{all_finite}
+use Rattle.binary32.proofs.PatternValues.{all_finite, later_entry}
 use Rattle.receivers.specs.declared.Extremes.{Extremes}
 use Rattle.receivers.specs.Stretches.{greater, lesser, greatest_from, least_from, greatest_of, least_of, spread, calm_as}
 use Rattle.receivers.specs.Spreads.{ExtremesOf, Logged}
@@ -82,7 +82,7 @@ module _ (l : List ℕ) (i : ℕ) (b : i < length l) where
   unfolding greatest_from
   greatest_step v = rw (add-one, drop-cons l i 0)
 
-  pub reached_more : (m n : ℕ) → Logged l → Reached l i m n → {m' n' : ℕ} → m' ≡ cond (lt_z (pattern_value here) (pattern_value m)) here m
+  reached_more : (m n : ℕ) → Logged l → Reached l i m n → {m' n' : ℕ} → m' ≡ cond (lt_z (pattern_value here) (pattern_value m)) here m
       → n' ≡ cond (lt_z (pattern_value n) (pattern_value here)) here n → Reached l (i + 1) m' n'
   reached_more m n h r {m'} {n'} e f =
       record {
@@ -97,6 +97,16 @@ module _ (l : List ℕ) (i : ℕ) (b : i < length l) where
         least_finite = rw e (chosen_finite (lt_z (pattern_value here) (pattern_value m)) _ _ (all_finite l h.finite i b) r.least_finite);
         greatest_finite = rw f (chosen_finite (lt_z (pattern_value n) (pattern_value here)) _ _ (all_finite l h.finite i b) r.greatest_finite);
       }
+
+-- one more entry of `patterns[1..]`
+pub reached_item : (l : List ℕ) (i m n : ℕ) → i < length (take (length l - 1) (drop 1 l)) → Logged l → Reached l (i + 1) m n → {m' n' : ℕ}
+    → let x = get_or (take (length l - 1) (drop 1 l)) i 0 in
+    m' ≡ cond (lt_z (pattern_value x) (pattern_value m)) x m → n' ≡ cond (lt_z (pattern_value n) (pattern_value x)) x n → Reached l (i + 1 + 1) m' n'
+reached_item l i m n h g r {m'} {n'} =
+    subst
+    (λ (x : ℕ). m' ≡ cond (lt_z (pattern_value x) (pattern_value m)) x m → n' ≡ cond (lt_z (pattern_value n) (pattern_value x)) x n → Reached l (i + 1 + 1) m' n')
+    (sym (later_entry l i h).1)
+    (reached_more l (i + 1) (later_entry l i h).0 m n g r)
 
 pub reached_all : (l : List ℕ) (i m n : ℕ) → length l ≤ i → Reached l i m n → ExtremesOf l (record { least = m; greatest = n })
 unfolding least_from greatest_from

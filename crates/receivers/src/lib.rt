@@ -4,8 +4,6 @@
 mod spread;
 pub mod stretch;
 
-use format::Refusal;
-
 // Patterns of the least and of the greatest value of a list.
 #[derive(Clone, Copy)]
 pub struct Extremes {
@@ -13,19 +11,9 @@ pub struct Extremes {
     pub greatest: u32,
 }
 
-// Whether a stretch of two logs is refused: 9 comes with its index.
-#[derive(Clone, Copy)]
-pub enum StretchCheck {
-    Passed,
-    Refused(Refusal),
-    RefusedAt(Refusal, usize),
-}
-
-// Which log is calmer in a stretch, or why neither is.
-#[derive(Clone, Copy)]
-pub enum Calmer {
+// The logs, in the order of their numbers 1 and 2.
+#[derive(Clone, Copy, Debug, PartialEq, Eq, Hash)]
+pub enum Log {
     First,
     Second,
-    Refused(Refusal),
-    RefusedAt(Refusal, usize),
 }

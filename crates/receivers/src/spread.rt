@@ -9,40 +9,21 @@ use crate::Extremes;
 use binary32::order::is_below;
 use exact_sums::sums::sums_upto;
 
-fn greater_of(a: u32, b: u32) -> u32
-    ensures { result ≡ cond (lt_z (pattern_value a) (pattern_value b)) b a }
-{
-    if is_below(a, b) {
-        return b;
-    }
-    a
-}
-
-fn lesser_of(a: u32, b: u32) -> u32
-    ensures { result ≡ cond (lt_z (pattern_value b) (pattern_value a)) b a }
-{
-    if is_below(b, a) {
-        return b;
-    }
-    a
-}
-
 fn extremes(patterns: &[u32]) -> Extremes
     requires { Logged patterns.now }
     ensures { ExtremesOf patterns.now result }
 {
     let mut least = patterns[0];
     let mut greatest = patterns[0];
-    let mut i = 1;
-    while i < patterns.len() {
-        least = lesser_of(least, patterns[i]);
-        greatest = greater_of(greatest, patterns[i]);
-        i += 1;
+    for &p in &patterns[1..] {
+        if is_below(p, least) {
+            least = p;
+        }
+        if is_below(greatest, p) {
+            greatest = p;
+        }
     }
-    Extremes {
-        least: least,
-        greatest: greatest,
-    }
+    Extremes { least, greatest }
 }
 
 // Is the spread of the first at most that of the second? M - m is at most N - n exactly where M + n is at most N + m.

@@ -1,74 +1,70 @@
-// The calmer stretch of two logs, which log that is, and why there is none.
+// The calmer stretch of two logs, which log that is, and why there is none. A stretch is a start and a length in each call, as the C
+// functions take it.
 ghost use Rattle.std.specs.Prelude.{◌≡◌};
-ghost use Rattle.receivers.specs.Answers.{stretch_given, calmer_given};
+ghost use Rattle.format.specs.Given.{given_at};
+ghost use Rattle.receivers.specs.Answers.{calmer_given};
 ghost use Rattle.receivers.specs.Stretches.{ends_within, finite_within, calmer_refusal, calmer_log, calmer_stretch, StandsIn};
 ghost use Rattle.receivers.specs.Spreads.{Contains};
 
+use crate::Log;
 use crate::spread::is_calm_as;
-use crate::{Calmer, StretchCheck};
 use binary32::finite::first_not_finite;
-use format::Refusal;
+use format::{ListRefusal, Refusal};
 
 // Is the stretch not empty, and does it end within the log? By subtraction, since start + length may overflow.
 fn ends_within(log: &[u32], start: usize, length: usize) -> bool
     ensures { result ≡ ends_within log.now start length }
 {
-    if length == 0 {
-        return false;
-    }
-    if log.len() < start {
-        return false;
-    }
-    if log.len() - start < length {
-        return false;
-    }
-    true
+    length != 0 && start <= log.len() && length <= log.len() - start
 }
 
 // Refuses 9 within the stretch, with its index in the log.
-fn check_finite(log: &[u32], start: usize, length: usize) -> StretchCheck
+fn check_finite(log: &[u32], start: usize, length: usize) -> Result<(), ListRefusal>
     requires { Contains log.now start length }
-    ensures { stretch_given result ≡ finite_within log.now start length }
+    ensures { given_at result ≡ finite_within log.now start length }
 {
     let bad = first_not_finite(&log[start..start + length]);
     if bad < length {
-        return StretchCheck::RefusedAt(Refusal::NotFinite, start + bad);
+        return Err(ListRefusal::Entry(Refusal::NotFinite, start + bad));
     }
-    StretchCheck::Passed
+    Ok(())
 }
 
 // Refuses 11, 17, and 9 within the stretch with its index in the log, the first log before the second.
-pub fn calmer_refusal(first: &[u32], second: &[u32], start: usize, length: usize) -> StretchCheck
-    ensures { stretch_given result ≡ calmer_refusal first.now second.now start length }
+pub fn calmer_refusal(
+    first: &[u32],
+    second: &[u32],
+    start: usize,
+    length: usize,
+) -> Result<(), ListRefusal>
+    ensures { given_at result ≡ calmer_refusal first.now second.now start length }
 {
     if first.len() != second.len() {
-        return StretchCheck::Refused(Refusal::LengthsDiffer);
+        return Err(Refusal::LengthsDiffer.into());
     }
     if !ends_within(first, start, length) {
-        return StretchCheck::Refused(Refusal::StretchOutside);
+        return Err(Refusal::StretchOutside.into());
     }
-    match check_finite(first, start, length) {
-        StretchCheck::Passed => check_finite(second, start, length),
-        StretchCheck::Refused(why) => StretchCheck::Refused(why),
-        StretchCheck::RefusedAt(why, index) => StretchCheck::RefusedAt(why, index),
-    }
+    check_finite(first, start, length)?;
+    check_finite(second, start, length)
 }
 
 // The log with the smaller difference between its greatest and its least value in the stretch, the first log if equal. Refuses as
 // calmer_refusal does.
-pub fn calmer_log(first: &[u32], second: &[u32], start: usize, length: usize) -> Calmer
+pub fn calmer_log(
+    first: &[u32],
+    second: &[u32],
+    start: usize,
+    length: usize,
+) -> Result<Log, ListRefusal>
     ensures { calmer_given result ≡ calmer_log first.now second.now start length }
 {
-    match calmer_refusal(first, second, start, length) {
-        StretchCheck::Refused(why) => Calmer::Refused(why),
-        StretchCheck::RefusedAt(why, index) => Calmer::RefusedAt(why, index),
-        StretchCheck::Passed => {
-            let end = start + length;
-            if is_calm_as(&first[start..end], &second[start..end]) {
-                return Calmer::First;
-            }
-            Calmer::Second
-        }
+    calmer_refusal(first, second, start, length)?;
+    let end = start + length;
+    if is_calm_as(&first[start..end], &second[start..end]) {
+        Ok(Log::First)
+    } else {
+        Ok(Log::Second)
     }
 }
 
@@ -84,9 +80,8 @@ pub fn calmer_stretch<'a>(
     ensures contents { result.now ≡ calmer_stretch first.now second.now start length }
 {
     match calmer_log(first, second, start, length) {
-        Calmer::First => &first[start..start + length],
-        Calmer::Second => &second[start..start + length],
-        Calmer::Refused(_) => &first[..0],
-        Calmer::RefusedAt(_, _) => &first[..0],
+        Ok(Log::First) => &first[start..start + length],
+        Ok(Log::Second) => &second[start..start + length],
+        Err(_) => &first[..0],
     }
 }

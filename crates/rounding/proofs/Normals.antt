@@ -1,11 +1,13 @@
 -- Significands that are brought to all their digits, their cuts, and values that share a factor.
 use Rattle.theory.proofs.Prelude.{ℕ, ◌≤◌, ◌<◌, ◌+◌, ◌^◌, ◌*◌, ◌-◌, ◌%◌, ◌/◌, false, ⊎_elim, inl, inr, ◌⊎◌, ◌∙◌, ap, ap₂, ◌≡◌, sym, refl, lt_of_not-le, ltb, ltb-false, mul-le-mul_right, mul-le-mul_left, pow-zero, mul-one, mul-pos, mul-lt-mul_of_pos_right, div-add-mod', mod-lt, le_of_mul-le-mul_left, arith}
 use mathlib.Core.Bool.{◌||◌}
+use Rattle.std.specs.Prelude.{min}
+use Rattle.std.proofs.lemmas.Bool.{cases_lt}
 use native.Mathlib.Nat.{mul-div-mul_right, mul_right_comm}
 use lib.Arith.{digits_mod}
 use Rattle.theory.proofs.Tests.{neither}
 use Rattle.theory.proofs.Place.{step_pos}
-use Rattle.rounding.proofs.Prelude.{Positional, Canonical, step, pow-add, pow_pos, pow_mono, Scale, ScaledWithin, Location, Exact, cut_of, Digits, located, located_exact, located_scaled, cut_is, positional, power_at, count_le, least_bound, bound_pos, extend_small}
+use Rattle.rounding.proofs.Prelude.{Positional, Canonical, step, pow-add, pow_pos, pow_mono, Scale, ScaledWithin, Location, Exact, cut_of, Digits, located, located_exact, located_scaled, cut_is, positional, power_at, count_le, least_bound, extend_small}
 use Rattle.rounding.specs.Digits.{Leading, Extended, Shifted}
 
 -- a factor that numerator and denominator share changes nothing
@@ -49,22 +51,23 @@ module _ {limit : ℕ} {s : Scale} (h : ScaledWithin limit s) where
   pub digits_fit : {m c : ℕ} → Digits s.base m c → m < s.bound → c ≤ s.digits
   digits_fit {m} {c} d small = count_le h.base_least c s.digits d.above (omega (arith, h.bound_power))
 
-  -- m has c digits, and the shift is `most` or what m lacks
-  pub extended : {m c : ℕ} → Digits s.base m c → (shift : ℕ) {most w : ℕ} → shift ≤ most → c + shift ≤ s.digits → (shift ≡ most) ⊎ (c + shift ≡ s.digits)
-      → w ≡ s.base ^ shift → Extended s m most (m * w) shift
-  extended {m} {c} d shift l fits e is =
+  -- m has c digits, and the shift is `most` or what m lacks, whichever is less
+  pub extended : {m c : ℕ} → Digits s.base m c → m < s.bound → {shift most w : ℕ} → shift ≡ min (s.digits - c) most → w ≡ s.base ^ shift
+      → Extended s m most (m * w) shift
+  extended {m} {c} d small {shift} {most} least is =
+      let room : c ≤ s.digits = digits_fit d small in
+      let fits : c + shift ≤ s.digits = omega (arith, room, least) in
       let split : s.base ^ (c + shift) ≡ s.base ^ c * s.base ^ shift = pow-add s.base c shift in
+      let all : c + shift ≡ s.digits → s.least ≤ m * s.base ^ shift = λ f.
+      le_of_mul-le-mul_left {k = s.base} (omega (arith, least_bound h, h.bound_power, power_at s.base f, split, mul-le-mul_right (s.base ^ shift) d.above)) (omega (arith, h.base_least)) in
+      let which : (shift ≡ most) ⊎ (c + shift ≡ s.digits) = ⊎_elim (λ (l : most < s.digits - c). inl (omega (arith, l, least))) (λ (l : s.digits - c ≤ most). inr (omega (arith, l, least, room))) (cases_lt most (s.digits - c)) in
       rw is
       (record {
         is = refl;
-        within = l;
+        within = omega (arith, least);
         small = omega (arith, extend_small (positional h) d shift fits, h.bound_power);
-        full = ⊎_elim inl (λ f. inr (le_of_mul-le-mul_left {k = s.base} (omega (arith, least_bound h, h.bound_power, power_at s.base f, split, mul-le-mul_right (s.base ^ shift) d.above)) (omega (arith, h.base_least)))) e;
+        full = ⊎_elim inl (λ f. inr (all f)) which;
       })
-
-  -- zero takes all
-  pub extended_zero : {m : ℕ} (most : ℕ) → m ≡ 0 → Extended s m most 0 most
-  extended_zero most e = rw e (record { is = omega arith; within = omega arith; small = omega (arith, bound_pos h); full = inl refl })
 
   -- a number above 0 never takes as many as the format has
   pub extended_shifted : {m a shift : ℕ} → 1 ≤ m → Extended s m s.digits a shift → Shifted s m a shift

@@ -12,10 +12,10 @@ pub use Rattle.format.specs.declared.Scale.{Scale}
 pub use Rattle.format.specs.Formats.{ScaledWithin, Scaled, greatest_power}
 pub use Rattle.rounding.specs.Digits.{Digits, Unit}
 unfoldable pub use Rattle.rounding.specs.Location.{located}
-pub use Rattle.rounding.specs.Location.{ranked, mark_of}
+pub use Rattle.rounding.specs.Location.{mark_of}
 unfoldable pub use Rattle.rounding.specs.Cut.{cut_of, dropped}
 pub use Rattle.rounding.specs.Cut.{Rounds}
-pub use Rattle.rounding.proofs.Scales.{positional, power_at, power_next, power_one, power_most, power_beyond, unit_next, unit_bound, unit_most, unit_pos, unit_two, count_le, count_room, bound_pos, least_bound, least_most, least_unit, bound_unit, square, quotient_within, share_steps, share_rest, less_taken, less_left}
+pub use Rattle.rounding.proofs.Scales.{positional, power_at, power_next, power_one, power_most, power_beyond, unit_next, unit_bound, unit_most, unit_pos, unit_two, count_le, count_room, bound_pos, least_bound, least_unit, bound_unit, square, quotient_within, share_steps, share_rest, less_taken, less_left}
 pub use Rattle.rounding.proofs.Widths.{digits_most, product_high, high_below}
 pub use Rattle.rounding.proofs.Locations.{located_exact, located_below, located_half, located_above, located_scaled}
-pub use Rattle.rounding.proofs.Places.{extend_small, divisor_fits, cut_is, cut_drop, cut_lowest, dropped_made, dropped_under, twice_steps, twice_rest}
+pub use Rattle.rounding.proofs.Places.{extend_small, cut_is, cut_drop, cut_lowest, dropped_made, dropped_under, twice_steps, twice_rest}

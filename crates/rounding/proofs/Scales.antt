@@ -48,9 +48,6 @@ module _ {limit : ℕ} {s : Scale} (h : ScaledWithin limit s) where
   pub least_bound : s.bound ≡ s.base * s.least
   least_bound = h.bound_power ∙ pow_pred s.base h.digits_least ∙ ap (λ (n : ℕ). s.base * n) (sym h.least_power)
 
-  pub least_most : s.least ≤ s.bound
-  least_most = omega (arith, least_bound, mul-le-mul_right s.least h.base_least)
-
   pub unit_bound : {unit shift : ℕ} → Unit s unit shift → unit * s.bound ≡ s.base ^ (s.digits + shift)
   unit_bound {unit} {shift} u = rw (u.is, h.bound_power, pow-add s.base s.digits shift) (omega arith)
 

@@ -20,7 +20,8 @@ fn factor(k: u32, bit: u32, power: u64) -> u64
     if k / bit % 2 == 1 { power } else { 1 }
 }
 
-// 10 ^ k: a product of a few selected constants, with no loop.
+// 10 ^ k: a product of a few selected constants, with no loop. Kept in place of `10u64.pow(k)`: the edit decimal_factor_has_a_zero_too_few is of
+// these constants.
 fn decimal_power(k: u32) -> Significand
     requires { k ≤ 18 }
     ensures { result ≡ 10 ^ k }
@@ -55,16 +56,7 @@ pub fn bit_count(n: u64) -> u32
     requires { 1 ≤ n }
     ensures { Digits 2 n result }
 {
-    64 - u64::leading_zeros(n)
-}
-
-// The digits of `n` in base 10, guessed from its bits (1233 / 4096 is just above log 2): the guess, or one more.
-fn decimal_count(n: u64) -> u32
-    requires { (1 ≤ n) × (n < 2 ^ 63) }
-    ensures { Digits 10 n result }
-{
-    let guess = bit_count(n) * 1233 / 4096;
-    guess + (decimal_power(guess) <= n) as u32
+    n.ilog2() + 1
 }
 
 // The digits of a significand.
@@ -79,8 +71,9 @@ fn digit_count(scale: Scale, n: Significand) -> u32
         return bit_count(n);
     }
     if scale.base == 10 {
-        return decimal_count(n);
+        return n.ilog10() + 1;
     }
+    // Kept as a loop: `n.ilog(base)` divides where this multiplies, and costs a conversion in every base 6 instructions more (211 in place of 205 in base 2).
     let base = scale.base as Significand;
     let mut bound = base;
     let mut count: u32 = 1;
@@ -103,9 +96,9 @@ pub fn normalise(scale: Scale, m: Significand, most: u32) -> Normal
         };
     }
     let lack = scale.digits - digit_count(scale, m);
-    let shift = if most < lack { most } else { lack };
+    let shift = lack.min(most);
     Normal {
         value: m * power(scale, shift),
-        shift: shift,
+        shift,
     }
 }

@@ -11,14 +11,13 @@ use Rattle.theory.proofs.Powers.{pow-add, pow_pos}
 use Rattle.theory.proofs.Wide.{wide_pow}
 use Rattle.number.proofs.Prelude.{Format, Given, gives, Admitted, positional, above_zero, below_zero, member, magnitude, value, greatest, number, Member, members, member_made}
 use Rattle.number.specs.declared.Number.{Number}
-use Rattle.number.specs.declared.NumberAnswer.TheVariants.{Value}
 use Rattle.number.proofs.Values.{number_same, number_of, number_member, number_value, one_greatest}
 use Rattle.wide.proofs.Signs.{signed_times}
 use Rattle.arithmetic.specs.Operations.{rounded_sum, rounded_difference, rounded_product}
 use Rattle.arithmetic.specs.Outcomes.{Outcome, given, too_large}
 use Rattle.arithmetic.proofs.Outcome.{rounded_outcome, rounded_z_outcome, rounded_exact, rounded_z_exact}
 use Rattle.arithmetic.proofs.Algebra.{xor_plus, xor_swap}
-use Rattle.rump.specs.Figures.{one, power, subrealmin, Answers}
+use Rattle.rump.specs.Figures.{one, power, subrealmin}
 use Rattle.rump.proofs.Reach.{Reach, first_power, constant_most}
 
 -- ---- numbers
@@ -109,6 +108,3 @@ module _ {f : Format} (a : Admitted f) where
 
   pub base_has : Reach f → Has f (power f 1) (pos (f.base * one f))
   base_has r = subst (λ (n : ℕ). Has f (power f 1) (pos (n * one f))) (first_power f.base) (power_has r 1 a.digits_low)
-
-pub constant_answers : {f : Format} {x y : Number} {v : ℤ} → Has f y v → x ≡ y → Answers f (gives y) (Value x)
-constant_answers {f} h e = record { is = ap gives e; settled = ap (member f) e ∙ h.number }

@@ -1,14 +1,15 @@
 -- The premises of the routes, as facts on natural numbers that `omega` reads: the constants of the figures are within the format.
-use Rattle.theory.proofs.Prelude.{ℕ, ◌≤◌, ◌<◌, ◌+◌, ◌^◌, ◌*◌, ◌-◌, true, false, Bool, not, ◌∙◌, ◌≡◌, sym, refl, subst, ap, le_trans, mul-le-mul_right, pow-zero, mul-one, arith, eqb, leb, ltb, pos, le_z, ◌-ℤ◌, neg_ℤ, ne_eqb, leb-true, leb-false, eqb-true, le-ltb, lt-ltb, ltb-true, eqb-false}
+use Rattle.theory.proofs.Prelude.{ℕ, ◌≤◌, ◌<◌, ◌+◌, ◌^◌, ◌*◌, ◌-◌, true, false, Bool, not, ◌∙◌, ◌≡◌, sym, refl, subst, ap, le_trans, mul-le-mul_right, pow-zero, mul-one, arith, eqb, leb, ltb, ℤ, pos, le_z, ◌-ℤ◌, neg_ℤ, w32, SFits, to_z, of_z, ne_eqb, leb-true, leb-false, eqb-true, le-ltb, lt-ltb, ltb-true, eqb-false}
 use Rattle.theory.proofs.Words.{◌and◌, Wide}
 use Rattle.theory.proofs.Tests.{and_left, and_right, and_made, and_passed, not-true, refuted}
 use Rattle.theory.proofs.Integers.{neg_above, neg_below, size_parts}
 use Rattle.theory.proofs.Powers.{pow-add, pow_pos, pow_pred, pow_mono, pow_lt}
 use Rattle.number.proofs.Prelude.{Format, Prepared, highest_place, above_zero, below_zero, member, magnitude, greatest, Usable, members, known}
 use Rattle.number.specs.declared.Number.{Number}
-use Rattle.format.proofs.Signed.{apart, le_true, make_le}
+use Rattle.format.specs.Formats.{exponents_admitted}
+use Rattle.format.proofs.Signed.{apart, back, le_true, make_le}
 use Rattle.format.proofs.Formats.{Admitted, distances}
-use Rattle.number.proofs.Values.{member_wide, member_greatest}
+use Rattle.number.proofs.Values.{emin_admitted, member_wide, member_greatest}
 use Rattle.arithmetic.proofs.Prepared.{parts_above, parts_below}
 use Rattle.rump.specs.declared.Figure.{Figure}
 use Rattle.rump.specs.declared.Figure.TheVariants as figure
@@ -17,6 +18,17 @@ use Rattle.rump.specs.Premises.{premise, first_premise, last_premise, next_premi
 
 pub first_power : (β : ℕ) → β ^ 1 ≡ β
 first_power β = pow_pred β {k = 1} (omega arith) ∙ rw (pow-zero β) (mul-one β)
+
+-- ---- the parts of an exponent as the code reads them
+module _ (e : ℤ) {n : ℕ} where
+  pub below_read : n ≡ below_zero (to_z w32 (of_z w32 e)) → SFits w32 e → n ≡ below_zero e
+  below_read h fits = h ∙ ap below_zero (back fits)
+
+  pub above_read : n ≡ above_zero (to_z w32 (of_z w32 e)) → SFits w32 e → n ≡ above_zero e
+  above_read h fits = h ∙ ap above_zero (back fits)
+
+pub emin_read : {f : Format} → Admitted f → SFits w32 f.emin → exponents_admitted (to_z w32 (of_z w32 f.emin)) (to_z w32 (of_z w32 f.emin)) ≡ true
+emin_read a fits = rw (back fits) (emin_admitted a)
 
 -- Emin ≤ -p and p ≤ Emax
 pub record Reach (f : Format) : Type 0 where

@@ -12,14 +12,11 @@ use Rattle.theory.proofs.LastPlace.{successor_most}
 use Rattle.theory.proofs.Faithful.{successor_pos}
 use Rattle.theory.proofs.Tests.{unless_passed, unless_failed, refuted}
 use Rattle.theory.specs.Tests.{unless}
-use Rattle.number.proofs.Prelude.{Format, Given, gives, refused, number_given, Admitted, positional, above_zero, below_zero, member, magnitude, value, greatest, number, delivered, Member, members, one_checked}
+use Rattle.number.proofs.Prelude.{Format, Given, gives, refused, Admitted, positional, above_zero, below_zero, member, magnitude, value, greatest, number, delivered, Member, members, one_checked}
 use Rattle.number.specs.declared.Number.{Number}
-use Rattle.number.specs.declared.NumberAnswer.{NumberAnswer}
-use Rattle.number.specs.declared.NumberAnswer.TheVariants.{Value, Refused}
-use Rattle.format.specs.declared.Refusal.{Refusal}
 use Rattle.number.proofs.Values.{member_wide, greatest_wide, one_greatest}
 use Rattle.wide.proofs.Signs.{signed_times}
-use Rattle.arithmetic.specs.Operations.{rounded_difference, rounded_product}
+use Rattle.arithmetic.specs.Operations.{rounded_product}
 use Rattle.arithmetic.specs.Outcomes.{Outcome, given, too_large}
 use Rattle.arithmetic.proofs.Outcome.{rounded_outcome}
 use Rattle.units.specs.Neighbours.{delivered_z, successor_of}
@@ -85,9 +82,6 @@ unlike e = let z : ◌≡◌ {A = ℕ} 0 1 = cc in omega arith
 
 same_given : {y z : Number} → gives y ≡ gives z → y ≡ z
 same_given e = cc
-
-unlike_refusal : (why : Refusal) {y : Number} → number_given (Refused why) ≡ gives y → ⊥
-unlike_refusal why e = unlike (sym e)
 
 positive : (n t : ℕ) → 1 ≤ n * t → 1 ≤ n
 positive zero t h = absurd (omega (arith, zero-mul t))
@@ -165,14 +159,6 @@ module _ (f : Format) (x : Number) where
   pub successor_member : Admitted f → Member f x → {y : Number} → successor_of f x ≡ gives y → member f y ≡ true
   successor_member a i {y} e = ⊎_elim (λ g. subst (λ (z : Number). member f z ≡ true) (same_given (sym g.1 ∙ e)) g.2.number) (λ g. absurd (unlike (sym e ∙ g.0))) (successor_cases a i)
 
-  pub gap_ends : (d : Direction) {r : NumberAnswer} {why : Refusal} → number_given r ≡ successor_of f x → r ≡ Refused why → number_given r ≡ gap_above f d x
-  unfolding gap_above
-  gap_ends d h e = rw (← h, e)
-
-  pub gap_goes_on : (d : Direction) {r : NumberAnswer} {y : Number} {g : Given Number} → number_given r ≡ successor_of f x → r ≡ Value y → g ≡ rounded_difference f d y x → g ≡ gap_above f d x
-  unfolding gap_above
-  gap_goes_on d h e k = rw (← h, e) k
-
 same_tests : (t u : Bool) → (t ≡ true → u ≡ true) → (u ≡ true → t ≡ true) → t ≡ u
 same_tests true u h k = sym (h refl)
 same_tests false true h k = k refl
@@ -187,12 +173,11 @@ module _ {f : Format} (a : Admitted f) (x : Number) (m : member f x ≡ true) (p
   cases = scaled a (led a kept) d size (has_wide a size)
 
   -- a product that is refused is above the greatest number
-  pub scaled_refused : {r : NumberAnswer} {why : Refusal} → number_given r ≡ rounded_product f d x (lead f) → r ≡ Refused why
-      → (g : Given Number) → refused 8 ≡ unless (scaled_premise f x) (refused 8) g
-  scaled_refused {r} {why} h e g = sym (unless_failed _ _ (sym (refuted (λ t. by t cases))))
+  pub scaled_refused : {n : ℕ} → rounded_product f d x (lead f) ≡ refused n → (g : Given Number) → refused 8 ≡ unless (scaled_premise f x) (refused 8) g
+  scaled_refused e g = sym (unless_failed _ _ (sym (refuted (λ t. by t cases))))
     where
       by : scaled_premise f x ≡ true → Scaled f (rounded_product f d x (lead f)) (magnitude f x * f.base ^ (f.digits - 1)) → ⊥
-      by t (within l k) = unlike_refusal why (sym (ap number_given e) ∙ h ∙ l.is)
+      by t (within l k) = unlike (sym l.is ∙ e)
       by t (beyond k l) = omega (arith, scaled_less f x t)
 
   module _ {y : Number} (e : rounded_product f d x (lead f) ≡ gives y) where
@@ -207,9 +192,6 @@ module _ {f : Format} (a : Admitted f) (x : Number) (m : member f x ≡ true) (p
         by (within l k) =
             record { has = subst (λ (z : Number). Has f z (pos (magnitude f x * f.base ^ (f.digits - 1)))) (same_given (sym l.is ∙ e)) l.has; most = k }
         by (beyond k l) = absurd (unlike (sym e ∙ k))
-
-    pub scaled_member : member f y ≡ true
-    scaled_member = inside.has.number
 
     -- the premise of figure 6 is that of figure 3 for the product
     premise_same : next_premise f y ≡ scaled_premise f x

@@ -1,19 +1,15 @@
 -- Rump's figures 1, 3, 4, 5 and 6 (source document 000), line by line: each line is one of the engine's operations on numbers of the
 -- format f, and a line that is refused ends the figure. x is |f| of the source.
-use Rattle.std.specs.Prelude.{ℕ, ◌+◌, ◌*◌, ◌-◌, ◌^◌, ◌≡◌, true, false, cond}
+use Rattle.std.specs.Prelude.{ℕ, ◌+◌, ◌*◌, ◌-◌, ◌^◌, false, cond}
 use Rattle.theory.specs.declared.Direction.{Direction}
 use Rattle.theory.specs.declared.Direction.TheVariants.{TowardZero, Upward}
 use Rattle.format.specs.declared.Format.{Format}
-use Rattle.format.specs.Given.{Given, gives, refused, refused_at, ◌then◌}
+use Rattle.format.specs.Given.{Given, gives, ◌then◌}
 use Rattle.number.specs.declared.Number.{Number}
-use Rattle.number.specs.declared.NumberAnswer.{NumberAnswer}
-use Rattle.number.specs.Answers.{number_given}
 use Rattle.number.specs.Exponents.{above_zero, below_zero}
-use Rattle.number.specs.Numbers.{equal_z, member, value, number}
+use Rattle.number.specs.Numbers.{equal_z, value, number}
 use Rattle.arithmetic.specs.Operations.{rounded_sum, rounded_difference, rounded_product}
 use Rattle.units.specs.Neighbours.{successor_of}
-use Rattle.rump.specs.declared.LineOperation.{LineOperation}
-use Rattle.rump.specs.declared.LineOperation.TheVariants.{Sum, Difference, Product}
 
 -- ---- the constants
 -- 1 in units of β ^ Emin, for Emin at most 0
@@ -34,26 +30,6 @@ lead_place f = f.digits - 1 + below_zero f.emin - above_zero f.emin
 
 abbrev pub lead : Format → Number
 lead f = number f false (f.base ^ lead_place f)
-
--- ---- a line of the code: an operation on what two lines gave, or the refusal that one of them met
-abbrev pub operation_of : LineOperation → Format → Direction → (a b : Number) → Given Number
-operation_of Sum f d a b = rounded_sum f d a b
-operation_of Difference f d a b = rounded_difference f d a b
-operation_of Product f d a b = rounded_product f d a b
-
-unfoldable pub joined : LineOperation → Format → Direction → (a b : Given Number) → Given Number
-joined o f d a b = a then λ x. b then λ y. operation_of o f d x y
-
--- a number of the format, or refusal 5
-abbrev pub Settled : Format → Given Number → Type 0
-Settled f (gives x) = member f x ≡ true
-Settled f (refused number) = number ≡ 5
-Settled f (refused_at number index) = ⊥
-
--- r is what is given, which is settled
-pub record Answers (f : Format) (given : Given Number) (r : NumberAnswer) : Type 0 where
-  pub is : number_given r ≡ given
-  pub settled : Settled f (number_given r)
 
 -- ---- the first place, toward zero: p1 = 1 - subrealmin, phi = β ^ (p - 1) + 1, q = phi x, S = q - p1 q
 unfoldable pub figure1 : Format → Number → Given Number

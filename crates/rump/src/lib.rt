@@ -8,19 +8,12 @@ mod premises;
 pub mod routes;
 mod successors;
 
-// Figures 1, 3, 4 and 5 of source document 000, without the successor.
-#[derive(Clone, Copy)]
+// Figures 1, 3, 4 and 5 of source document 000, without the successor. An enum, as the premises and the routes are defined by it
+// (specs/Premises, specs/Routes).
+#[derive(Clone, Copy, Debug, PartialEq, Eq, Hash)]
 pub enum Figure {
     First,
     Third,
     Fourth,
     Fifth,
-}
-
-// What a line of a figure does with two numbers.
-#[derive(Clone, Copy)]
-pub enum LineOperation {
-    Sum,
-    Difference,
-    Product,
 }

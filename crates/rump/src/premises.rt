@@ -7,10 +7,11 @@ ghost use Rattle.rump.specs.Premises.{Run, premise, first_premise, last_premise,
 
 use crate::Figure;
 use format::{Format, Prepared};
+use number::Number;
 use number::delivery::number_at;
 use number::exponents::{above_zero, below_zero};
 use number::order::compare_magnitudes;
-use number::{Number, Ordering};
+use std::cmp::Ordering;
 use units::powers_of_base::power_number;
 
 // Emin ≤ -p and p ≤ Emax.
@@ -30,11 +31,7 @@ fn is_smaller(format: Format, x: Number, bound: Number) -> bool
     requires { (admitted format ≡ true) × (member format x ≡ true) × (member format bound ≡ true) }
     ensures { result ≡ ltb (magnitude format x) (magnitude format bound) }
 {
-    match compare_magnitudes(format, x, bound) {
-        Ordering::Less => true,
-        Ordering::Equal => false,
-        Ordering::Greater => false,
-    }
+    compare_magnitudes(format, x, bound) == Ordering::Less
 }
 
 // Figure 1 takes x below base^(Emax - p + 1).
@@ -88,8 +85,6 @@ pub fn premise_holds(figure: Figure, prepared: Prepared, x: Number) -> bool
     }
     match figure {
         Figure::First => first_premise(prepared, x),
-        Figure::Third => last_premise(prepared, x),
-        Figure::Fourth => last_premise(prepared, x),
-        Figure::Fifth => last_premise(prepared, x),
+        Figure::Third | Figure::Fourth | Figure::Fifth => last_premise(prepared, x),
     }
 }

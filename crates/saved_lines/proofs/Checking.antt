@@ -1,13 +1,16 @@
 -- The checks of a list in their order, and what a list that passed them has.
-use Rattle.theory.proofs.Prelude.{ℕ, ◌≤◌, ◌<◌, true, false, Bool, not, List, ◌∙◌, ap, ◌≡◌, sym, refl, arith, leb, length, le-leb, leb-true, lt-leb, not-true}
+use Rattle.theory.proofs.Prelude.{ℕ, ◌≤◌, ◌<◌, true, false, Bool, not, List, ◌∙◌, ap, ◌≡◌, sym, refl, arith, leb, length, le-leb, lt-leb}
 use Rattle.theory.specs.Lists.{first_where, none}
-use Rattle.theory.specs.Tests.{◌and◌, unless}
-use Rattle.theory.proofs.Tests.{and_left, and_right, and_made, unless_passed, unless_failed}
-use Rattle.format.specs.Given.{gives, refused, refused_at, ◌then◌}
+use Rattle.theory.specs.Tests.{◌and◌}
+use Rattle.theory.proofs.Results.{err_returned}
+use Rattle.theory.proofs.Tests.{and_made, unless_passed, unless_failed}
+use Rattle.format.specs.Given.{Given, gives, refused, refused_at, ◌then◌, given_at}
 use Rattle.binary32.specs.Patterns.{finite, not_finite, pattern_value, pattern_values}
-use Rattle.saved_lines.specs.declared.Check.{Check}
+use Rattle.std.specs.Prelude.{Result, Err, IsErrAnd}
+use Rattle.format.specs.declared.ListRefusal.{ListRefusal}
+use Rattle.format.specs.declared.ListRefusal.TheVariants.{Whole, Entry}
 use Rattle.saved_lines.specs.Offsets.{nearest, descends, repeats}
-use Rattle.saved_lines.specs.Lines.{Examination, passed, list_given, patterns_checked, ascent_checked, lines_checked, Checked, nearest_line}
+use Rattle.saved_lines.specs.Lines.{Examination, passed, patterns_checked, ascent_checked, lines_checked, Checked, nearest_line}
 
 -- ---- the refusals, one after the other
 module _ (l : List ℕ) (t : Bool) where
@@ -29,7 +32,7 @@ module _ (l : List ℕ) (t : Bool) where
         ap (refused_at 9) e ∙ sym (unless_passed _ _ length_passed ∙ unless_failed _ _ (lt-leb (length l) (first_where not_finite l) (omega arith)))
 
     module _ (b : length l ≤ n) where
-      patterns_passed : none not_finite l ≡ true
+      pub patterns_passed : none not_finite l ≡ true
       unfolding none
       patterns_passed = le-leb (length l) (first_where not_finite l) (omega arith)
 
@@ -54,47 +57,40 @@ module _ (l : List ℕ) (t : Bool) where
       unfolding ascent_checked
       all_passed f d r = sym (unless_passed _ _ (ap not d) ∙ unless_passed _ _ (ap not r)) ∙ by_order f
 
--- ---- what passed
--- the test passed, where what is refused is not the answer
-pub went_on : (t : Bool) {x y : Examination} → unless t x y ≡ passed → (x ≡ passed → ⊥) → (t ≡ true) × (y ≡ passed)
-unfolding unless
-went_on true e n = (refl, e)
-went_on false e n = absurd (n e)
+-- ---- what comes after checks: a refusal of theirs, or what follows where they pass
+module _ {B : Type 0} {x : Examination} (next : Unit {0} → Given B) where
+  pub refused_by : {A : Type 0} (c : Result A ListRefusal) {why : ListRefusal} (r : Result B ListRefusal) → c ≡ Err why → IsErrAnd r (λ z. z ≡ why)
+      → (given_at c then λ _. passed) ≡ x → given_at r ≡ (x then next)
+  refused_by {A} c {why} r f h e = ap given_at (err_returned r h) ∙ by why (rw f at e)
+    where
+      by : (why : ListRefusal) → (given_at {A = A} (Err why) then λ _. passed) ≡ x → given_at {A = B} (Err why) ≡ (x then next)
+      by (Whole why) e = ap (λ (y : Examination). y then next) e
+      by (Entry why index) e = ap (λ (y : Examination). y then next) e
 
-pub not_refused_law : {n : ℕ} → ◌≡◌ {A = Examination} (refused n) passed → ⊥
-not_refused_law e = let z : ◌≡◌ {A = ℕ} 0 1 = cc in omega arith
+  pub passed_by : passed ≡ x → next tt ≡ (x then next)
+  passed_by e = ap (λ (y : Examination). y then next) e
 
-pub not_refused_at : {n i : ℕ} → ◌≡◌ {A = Examination} (refused_at n i) passed → ⊥
-not_refused_at e = let z : ◌≡◌ {A = ℕ} 0 1 = cc in omega arith
+-- checks that give nothing
+pub nothing_given : (x : Examination) → (x then λ _. passed) ≡ x
+nothing_given (gives u) = refl
+nothing_given (refused number) = refl
+nothing_given (refused_at number index) = refl
 
-pub passed_checks : (l : List ℕ) (t : Bool) → lines_checked l t ≡ passed → Checked l × (t ≡ true)
-unfolding lines_checked patterns_checked ascent_checked
-passed_checks l t h =
-    let a = went_on (leb 1 (length l) and leb (length l) 4096) h not_refused_law in
-    let b = went_on (none not_finite l) a.1 not_refused_at in
-    let c = went_on t b.1 not_refused_law in
-    let d = went_on (not (descends (pattern_values l))) c.1 not_refused_law in
-    let e = went_on (not (repeats (pattern_values l))) d.1 not_refused_law in (
-      record {
-        some = leb-true 1 (length l) (and_left _ _ a.0);
-        most = leb-true (length l) 4096 (and_right _ _ a.0);
-        finite = b.0;
-        order = not-true _ d.0;
-        strict = not-true _ e.0;
-      },
-      c.0,
-    )
+-- ---- the answer of nearest_line
+module _ {A : Type 0} (l : List ℕ) (q : ℕ) {t : Bool} (f : t ≡ finite q) where
+  pub nearest_refused : (c : Result A ListRefusal) {why : ListRefusal} (r : Result ℕ ListRefusal) → c ≡ Err why → IsErrAnd r (λ z. z ≡ why)
+      → (given_at c then λ _. passed) ≡ lines_checked l t → given_at r ≡ nearest_line l q
+  unfolding nearest_line
+  nearest_refused c r g h e = refused_by _ c r g h (e ∙ ap (lines_checked l) f)
 
--- ---- the answer of nearest_line, after a check that was told
-pub nearest_after : (l : List ℕ) (q : ℕ) {r k : Check} → list_given r ≡ lines_checked l (finite q) → r ≡ k
-    → list_given k then (λ _. gives (nearest (pattern_values l) (pattern_value q))) ≡ nearest_line l q
+pub nearest_found : (l : List ℕ) (q : ℕ) {t : Bool} → t ≡ finite q → passed ≡ lines_checked l t → gives (nearest (pattern_values l) (pattern_value q)) ≡ nearest_line l q
 unfolding nearest_line
-nearest_after l q e f = ap (λ (x : Examination). x then (λ _. gives (nearest (pattern_values l) (pattern_value q)))) (ap list_given (sym f) ∙ e)
+nearest_found l q f e = passed_by _ (e ∙ ap (lines_checked l) f)
 
--- and of a list that passed them
-pub list_given_passes : (l : List ℕ) (q : ℕ) → Checked l → finite q ≡ true → nearest_line l q ≡ gives (nearest (pattern_values l) (pattern_value q))
+-- and of a list that passes them
+pub checked_passes : (l : List ℕ) (q : ℕ) → Checked l → finite q ≡ true → nearest_line l q ≡ gives (nearest (pattern_values l) (pattern_value q))
 unfolding nearest_line lines_checked patterns_checked ascent_checked
-list_given_passes l q c f = ap (λ (x : Examination). x then (λ _. gives (nearest (pattern_values l) (pattern_value q)))) all
+checked_passes l q c f = ap (λ (x : Examination). x then (λ _. gives (nearest (pattern_values l) (pattern_value q)))) all
   where
     all : lines_checked l (finite q) ≡ passed
     all =

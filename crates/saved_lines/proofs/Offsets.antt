@@ -1,48 +1,34 @@
 -- What a list of patterns says of the list of its values: whether it descends or repeats, and what a list that passed the checks has.
-use Rattle.theory.proofs.Prelude.{ℕ, ◌≤◌, ◌<◌, suc, true, false, Bool, not, List, ◌∙◌, ◌≡◌, sym, ap₂, arith, pos, length, get_or, lt_z}
-use Rattle.theory.specs.Tests.{◌and◌}
+use Rattle.theory.proofs.Prelude.{ℕ, ◌≤◌, ◌<◌, suc, true, false, Bool, not, List, ◌∙◌, ◌≡◌, sym, ap₂, arith, pos, length, get_or, lt_z, ℤ, not-true, not-false, add-one}
+use Rattle.theory.specs.Lists.{some_neighbours}
 use Rattle.theory.proofs.Lists.{neighbours_made, no_neighbours}
+use Rattle.std.specs.List.{IsAllAdjacentAnswer}
 use Rattle.format.proofs.Signed.{Upto, make_lt}
-use Rattle.binary32.specs.Patterns.{finite, pattern_value, pattern_values}
-use Rattle.binary32.proofs.PatternValues.{all_finite, value_at, values_length}
+use Rattle.binary32.specs.Patterns.{pattern_value, pattern_values}
+use Rattle.binary32.proofs.PatternValues.{value_at, values_length}
 use Rattle.saved_lines.specs.Offsets.{falls, descends, equals, repeats}
 use Rattle.saved_lines.specs.Lines.{Checked}
 use Rattle.saved_lines.proofs.NearestLaws.{Rising, rises_strictly, rising_upto}
 
--- a comparison that was made
-pub equal_told : (a b : ℕ) {r t : Bool} → r ≡ not (lt_z (pattern_value a) (pattern_value b)) and not (lt_z (pattern_value b) (pattern_value a)) → r ≡ t
-    → equals (pattern_value a) (pattern_value b) ≡ t
-unfolding equals
-equal_told a b e h = sym e ∙ h
-
+-- a test of each offset and the next that was told: none passes, or some pass does
 module _ (l : List ℕ) where
-  pub descends_here : (k : ℕ) → suc k < length l → lt_z (pattern_value (get_or l (suc k) 0)) (pattern_value (get_or l k 0)) ≡ true → descends (pattern_values l) ≡ true
-  unfolding descends falls
-  descends_here k h t =
-      neighbours_made falls (pos 0) (pattern_values l) k (omega (arith, values_length l)) (ap₂ lt_z (value_at l (suc k)) (value_at l k) ∙ t)
+  told_neighbours : (test : ℤ → ℤ → Bool) (r : Bool) → IsAllAdjacentAnswer (λ v w t. t ≡ not (test (pattern_value v) (pattern_value w))) l r
+      → not r ≡ some_neighbours test (pattern_values l)
+  told_neighbours test true h =
+      sym (no_neighbours test (pos 0) (pattern_values l) (λ k m. ap₂ test (value_at l k) (value_at l (suc k)) ∙ not-true _ (sym (rw add-one at (h k 0 (omega (arith, values_length l)))))))
+  told_neighbours test false (k, m, h) =
+      sym (neighbours_made test (pos 0) (pattern_values l) k (omega (arith, values_length l)) (ap₂ test (value_at l k) (value_at l (suc k)) ∙ not-false _ (sym (rw add-one at (h 0)))))
 
-  pub descends_nowhere : ((k : ℕ) → suc k < length l → lt_z (pattern_value (get_or l (suc k) 0)) (pattern_value (get_or l k 0)) ≡ false)
-      → descends (pattern_values l) ≡ false
-  unfolding descends falls
-  descends_nowhere h =
-      no_neighbours falls (pos 0) (pattern_values l) (λ k m. ap₂ lt_z (value_at l (suc k)) (value_at l k) ∙ h k (omega (arith, values_length l)))
+  pub told_descends : (r : Bool) → IsAllAdjacentAnswer (λ v w t. t ≡ not (falls (pattern_value v) (pattern_value w))) l r → not r ≡ descends (pattern_values l)
+  unfolding descends
+  told_descends r h = told_neighbours falls r h
 
-  pub repeats_here : (k : ℕ) → suc k < length l → equals (pattern_value (get_or l k 0)) (pattern_value (get_or l (suc k) 0)) ≡ true → repeats (pattern_values l) ≡ true
+  pub told_repeats : (r : Bool) → IsAllAdjacentAnswer (λ v w t. t ≡ not (equals (pattern_value v) (pattern_value w))) l r → not r ≡ repeats (pattern_values l)
   unfolding repeats
-  repeats_here k h t =
-      neighbours_made equals (pos 0) (pattern_values l) k (omega (arith, values_length l)) (ap₂ equals (value_at l k) (value_at l (suc k)) ∙ t)
-
-  pub repeats_nowhere : ((k : ℕ) → suc k < length l → equals (pattern_value (get_or l k 0)) (pattern_value (get_or l (suc k) 0)) ≡ false)
-      → repeats (pattern_values l) ≡ false
-  unfolding repeats
-  repeats_nowhere h =
-      no_neighbours equals (pos 0) (pattern_values l) (λ k m. ap₂ equals (value_at l k) (value_at l (suc k)) ∙ h k (omega (arith, values_length l)))
+  told_repeats r h = told_neighbours equals r h
 
   -- a list that passed the checks
   module _ (c : Checked l) where
-    pub finite_at : (k : ℕ) → k < length l → finite (get_or l k 0) ≡ true
-    finite_at k h = all_finite l c.finite k h
-
     pub offsets_rise : Rising (pattern_values l)
     offsets_rise = rises_strictly (pattern_values l) c.order c.strict
 

@@ -5,25 +5,24 @@ use Rattle.theory.proofs.Lists.{first_before, first_most}
 use Rattle.format.proofs.Signed.{Upto, Under}
 use Rattle.binary32.specs.Patterns.{pattern_value, pattern_values}
 use Rattle.binary32.proofs.PatternValues.{value_at, values_length}
-use Rattle.saved_lines.specs.declared.Sought.TheVariants.{AtLeast}
 use Rattle.saved_lines.specs.Offsets.{at, nearer, nearest}
-use Rattle.saved_lines.specs.Searches.{passes_of}
+use Rattle.saved_lines.specs.Searches.{at_least}
 use Rattle.saved_lines.specs.Lines.{Checked}
 use Rattle.saved_lines.proofs.DistanceLaws.{nearer_true, nearer_false}
 use Rattle.saved_lines.proofs.NearestLaws.{left_nearest, right_nearest}
 use Rattle.saved_lines.proofs.Offsets.{offsets_rise}
-use Rattle.saved_lines.proofs.Searches.{below_number, from_number, from_first}
+use Rattle.saved_lines.proofs.Searches.{below_number, from_number, from_first, later_at_least}
 
 -- `next` is the first position whose offset is not below the query
-module _ (l : List ℕ) (c : Checked l) (q : ℕ) {next : ℕ} (e : next ≡ first_where (passes_of (AtLeast q)) l) where
+module _ (l : List ℕ) (c : Checked l) (q : ℕ) {next : ℕ} (e : next ≡ first_where (at_least q) l) where
   pub below_query : (k : ℕ) → k < next → Under (at (pattern_values l) k) (pattern_value q)
-  below_query k h = rw (value_at l k) (below_number q (get_or l k 0) (first_before (passes_of (AtLeast q)) 0 l k (omega arith)))
+  below_query k h = rw (value_at l k) (below_number q (get_or l k 0) (first_before (at_least q) 0 l k (omega arith)))
 
   pub from_query : (k : ℕ) → next ≤ k → k < length (pattern_values l) → Upto (pattern_value q) (at (pattern_values l) k)
-  from_query k h m = rw (value_at l k) (from_number q (get_or l k 0) (from_first l c (AtLeast q) k (omega arith) (omega (arith, values_length l))))
+  from_query k h m = rw (value_at l k) (from_number q (get_or l k 0) (from_first l c (later_at_least q) k (omega arith) (omega (arith, values_length l))))
 
   pub next_most : next ≤ length l
-  next_most = omega (arith, first_most (passes_of (AtLeast q)) 0 l)
+  next_most = omega (arith, first_most (at_least q) 0 l)
 
   abbrev test : Bool
   test = nearer (pattern_value q) (pattern_value (get_or l next 0)) (pattern_value (get_or l (next - 1) 0))

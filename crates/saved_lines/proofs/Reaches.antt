@@ -3,22 +3,23 @@ use Rattle.theory.proofs.Prelude.{ℕ, ◌≤◌, ◌<◌, ◌-◌, true, false,
 use Rattle.theory.specs.Lists.{first_where}
 use Rattle.theory.specs.Tests.{◌and◌, unless}
 use Rattle.theory.proofs.Lists.{first_before, first_most}
-use Rattle.theory.proofs.Tests.{unless_passed, unless_failed}
+use Rattle.theory.proofs.Tests.{never, unless_passed, unless_failed}
 use Rattle.theory.proofs.Integers.{above, below, sum_parts}
-use Rattle.format.specs.Given.{gives, refused, ◌then◌}
+use Rattle.format.specs.Given.{Given, gives, refused, ◌then◌, given_at}
 use Rattle.format.proofs.Signed.{Upto, apart, le_true, le_false, make_le}
 use Rattle.binary32.specs.Patterns.{finite, pattern_value, pattern_values}
 use Rattle.binary32.proofs.PatternValues.{value_at, values_length}
-use Rattle.saved_lines.specs.declared.Check.{Check}
-use Rattle.saved_lines.specs.declared.Check.TheVariants as check
-use Rattle.saved_lines.specs.declared.Sought.TheVariants.{AtLeast, Reaching, Beyond}
+use Rattle.std.specs.Prelude.{Result, Ok, Err, IsErr, IsErrAnd}
+use Rattle.format.specs.declared.ListRefusal.{ListRefusal}
+use Rattle.format.specs.declared.ListRefusal.TheVariants.{Whole, Entry}
 use Rattle.saved_lines.specs.Positions.{range}
 use Rattle.saved_lines.specs.Offsets.{at, distance, is_within}
-use Rattle.saved_lines.specs.Searches.{passes_of}
-use Rattle.saved_lines.specs.Lines.{Examination, list_given, lines_checked, Checked, lines_found, lines_within}
+use Rattle.saved_lines.specs.Searches.{at_least, reaching, beyond}
+use Rattle.saved_lines.specs.Lines.{passed, lines_checked, Checked, lines_found, lines_within, within_written}
 use Rattle.saved_lines.specs.Walks.{Around}
+use Rattle.saved_lines.proofs.Checking.{refused_by, passed_by}
 use Rattle.saved_lines.proofs.DistanceLaws.{distance_is}
-use Rattle.saved_lines.proofs.Searches.{from_first}
+use Rattle.saved_lines.proofs.Searches.{from_first, later_reaching, later_beyond}
 use Rattle.saved_lines.proofs.Positions.{next_most, below_query, from_query}
 use Rattle.saved_lines.proofs.PositionLists.{range_length, positions_none, positions_range}
 
@@ -56,16 +57,16 @@ unfolding range
 nothing i = refl
 
 -- ---- the two ends
-reached_at : (q d n : ℕ) → passes_of (Reaching q d) n ≡ le_z (pattern_value q) (pattern_value n +ℤ pattern_value d)
-unfolding passes_of
+reached_at : (q d n : ℕ) → reaching q d n ≡ le_z (pattern_value q) (pattern_value n +ℤ pattern_value d)
+unfolding reaching
 reached_at q d n = refl
 
-beyond_at : (q d n : ℕ) → passes_of (Beyond q d) n ≡ not (le_z (pattern_value n) (pattern_value q +ℤ pattern_value d))
-unfolding passes_of
+beyond_at : (q d n : ℕ) → beyond q d n ≡ not (le_z (pattern_value n) (pattern_value q +ℤ pattern_value d))
+unfolding beyond
 beyond_at q d n = refl
 
-module _ (l : List ℕ) (c : Checked l) (q d : ℕ) {first end : ℕ} (e : first ≡ first_where (passes_of (Reaching q d)) l)
-    (g : end ≡ first_where (passes_of (Beyond q d)) l) where
+module _ (l : List ℕ) (c : Checked l) (q d : ℕ) {first end : ℕ} (e : first ≡ first_where (reaching q d) l)
+    (g : end ≡ first_where (beyond q d) l) where
   abbrev within : ℤ → Bool
   within = is_within (pattern_value q) (pattern_value d)
 
@@ -73,23 +74,23 @@ module _ (l : List ℕ) (c : Checked l) (q d : ℕ) {first end : ℕ} (e : first
   fails_before k h =
       ap within (value_at l k)
       ∙ not_reached (pattern_value q) (pattern_value d) (pattern_value (get_or l k 0))
-      (sym (reached_at q d (get_or l k 0)) ∙ first_before (passes_of (Reaching q d)) 0 l k (omega arith))
+      (sym (reached_at q d (get_or l k 0)) ∙ first_before (reaching q d) 0 l k (omega arith))
 
   fails_after : (k : ℕ) → end ≤ k → k < length (pattern_values l) → within (at (pattern_values l) k) ≡ false
   fails_after k h m =
       ap within (value_at l k)
       ∙ beyond_reach (pattern_value q) (pattern_value d) (pattern_value (get_or l k 0))
-      (not-true _ (sym (beyond_at q d (get_or l k 0)) ∙ from_first l c (Beyond q d) k (omega arith) (omega (arith, values_length l))))
+      (not-true _ (sym (beyond_at q d (get_or l k 0)) ∙ from_first l c (later_beyond q d) k (omega arith) (omega (arith, values_length l))))
 
   end_most : end ≤ length l
-  end_most = omega (arith, first_most (passes_of (Beyond q d)) 0 l)
+  end_most = omega (arith, first_most (beyond q d) 0 l)
 
   passes_between : (k : ℕ) → first ≤ k → k < end → within (at (pattern_values l) k) ≡ true
   passes_between k h m =
       ap within (value_at l k)
       ∙ within_made (pattern_value q) (pattern_value d) (pattern_value (get_or l k 0))
-      (sym (reached_at q d (get_or l k 0)) ∙ from_first l c (Reaching q d) k (omega arith) (omega (arith, end_most)))
-      (not-false _ (sym (beyond_at q d (get_or l k 0)) ∙ first_before (passes_of (Beyond q d)) 0 l k (omega arith)))
+      (sym (reached_at q d (get_or l k 0)) ∙ from_first l c (later_reaching q d) k (omega arith) (omega (arith, end_most)))
+      (not-false _ (sym (beyond_at q d (get_or l k 0)) ∙ first_before (beyond q d) 0 l k (omega arith)))
 
   none_found : end ≤ first → range 0 0 ≡ lines_found l q d
   unfolding range
@@ -115,7 +116,7 @@ module _ (l : List ℕ) (c : Checked l) (q d : ℕ) {first end : ℕ} (e : first
       omega (arith, w.0, w.1, sum_parts (at (pattern_values l) first) (pattern_value d), sum_parts (pattern_value q) (pattern_value d))
 
   -- the walk starts between the two ends
-  module _ {split : ℕ} (s : split ≡ first_where (passes_of (AtLeast q)) l) where
+  module _ {split : ℕ} (s : split ≡ first_where (at_least q) l) where
     pub around_none : end ≤ first → Around l q d split split split
     around_none h =
         let z : split - split ≡ 0 = omega arith in
@@ -131,10 +132,10 @@ module _ (l : List ℕ) (c : Checked l) (q d : ℕ) {first end : ℕ} (e : first
             (omega (
               arith,
               not_below_zero h,
-              first_most (passes_of (Reaching q d)) 0 l,
-              le_false (pattern_value q) (pattern_value (get_or l split 0) +ℤ pattern_value d) (sym (reached_at q d (get_or l split 0)) ∙ first_before (passes_of (Reaching q d)) 0 l split (omega arith)),
+              first_most (reaching q d) 0 l,
+              le_false (pattern_value q) (pattern_value (get_or l split 0) +ℤ pattern_value d) (sym (reached_at q d (get_or l split 0)) ∙ first_before (reaching q d) 0 l split (omega arith)),
               sum_parts (pattern_value (get_or l split 0)) (pattern_value d),
-              rw (value_at l split) at (from_query l c q s split (omega arith) (omega (arith, values_length l, first_most (passes_of (Reaching q d)) 0 l))),
+              rw (value_at l split) at (from_query l c q s split (omega arith) (omega (arith, values_length l, first_most (reaching q d) 0 l))),
             ))
 
     ends : first < end → split ≤ end
@@ -148,7 +149,7 @@ module _ (l : List ℕ) (c : Checked l) (q d : ℕ) {first end : ℕ} (e : first
               arith,
               not_below_zero h,
               le_false (pattern_value (get_or l end 0)) (pattern_value q +ℤ pattern_value d)
-                  (not-true _ (sym (beyond_at q d (get_or l end 0)) ∙ from_first l c (Beyond q d) end (omega arith) (omega (arith, next_most l c q s)))),
+                  (not-true _ (sym (beyond_at q d (get_or l end 0)) ∙ from_first l c (later_beyond q d) end (omega arith) (omega (arith, next_most l c q s)))),
               sum_parts (pattern_value q) (pattern_value d),
               rw (value_at l end) at (below_query l c q s end (omega arith)),
             ))
@@ -157,23 +158,36 @@ module _ (l : List ℕ) (c : Checked l) (q d : ℕ) {first end : ℕ} (e : first
     around_some h =
         record { found = some_found h; walk = record { low = starts h; below = omega arith; above = omega arith; high = ends h; most = end_most } }
 
--- ---- the answers of lines_within, after a check that was told
-module _ (l : List ℕ) (q d room : ℕ) {r k : Check} (e : list_given r ≡ lines_checked l (finite q and finite d)) (f : r ≡ k) where
+-- ---- the answers of lines_within
+module _ (l : List ℕ) (q d room : ℕ) where
   abbrev found : List ℕ
   found = lines_found l q d
 
-  pub within_after : list_given k then (λ _. unless (leb (length found) room) (refused 14) (gives (length found))) ≡ lines_within l q d room
+  abbrev by_count : Given ℕ
+  by_count = unless (leb (length found) room) (refused 14) (gives (length found))
+
+  pub within_refused : {A : Type 0} {t : Bool} → t ≡ (finite q and finite d) → (c : Result A ListRefusal) {why : ListRefusal} (r : Result ℕ ListRefusal) → c ≡ Err why
+      → IsErrAnd r (λ z. z ≡ why) → (given_at c then λ _. passed) ≡ lines_checked l t → given_at r ≡ lines_within l q d room
   unfolding lines_within
-  within_after = ap (λ (x : Examination). x then (λ _. unless (leb (length found) room) (refused 14) (gives (length found)))) (ap list_given (sym f) ∙ e)
+  within_refused f c r g h e = refused_by (λ _. by_count) c r g h (e ∙ ap (lines_checked l) f)
 
-module _ (l : List ℕ) (q d room : ℕ) {r : Check} (e : list_given r ≡ lines_checked l (finite q and finite d)) (f : r ≡ check.Passed)
-    (first n : ℕ) (g : range first n ≡ lines_found l q d) where
-  count_is : n ≡ length (lines_found l q d)
-  count_is = sym (range_length first n) ∙ ap length g
+  -- after the checks, where n lines from `first` on are those found
+  module _ {t : Bool} (f : t ≡ (finite q and finite d)) (e : passed ≡ lines_checked l t) (first n : ℕ) (g : range first n ≡ found) where
+    count_is : n ≡ length found
+    count_is = sym (range_length first n) ∙ ap length g
 
-  pub within_short : room < n → refused 14 ≡ lines_within l q d room
-  within_short h = sym (unless_failed _ _ (lt-leb (length (lines_found l q d)) room (omega (arith, count_is)))) ∙ within_after l q d room e f
+    counted : by_count ≡ lines_within l q d room
+    unfolding lines_within
+    counted = passed_by (λ _. by_count) (e ∙ ap (lines_checked l) f)
 
-  pub within_found : n ≤ room → gives n ≡ lines_within l q d room
-  within_found h =
-      ap gives count_is ∙ sym (unless_passed _ _ (le-leb (length (lines_found l q d)) room (omega (arith, count_is)))) ∙ within_after l q d room e f
+    pub within_short : room < n → refused 14 ≡ lines_within l q d room
+    within_short h = sym (unless_failed _ _ (lt-leb (length found) room (omega (arith, count_is)))) ∙ counted
+
+    pub within_found : n ≤ room → gives n ≡ lines_within l q d room
+    within_found h = ap gives count_is ∙ sym (unless_passed _ _ (le-leb (length found) room (omega (arith, count_is)))) ∙ counted
+
+-- a refusal leaves what was lent
+pub within_kept : (r : Result ℕ ListRefusal) → IsErr r → (listed old : List ℕ) → old ≡ within_written (given_at r) listed old
+within_kept (Ok n) h listed old = absurd (never (sym h))
+within_kept (Err (Whole why)) h listed old = refl
+within_kept (Err (Entry why index)) h listed old = refl

@@ -10,7 +10,7 @@ use Rattle.saved_lines.specs.Offsets.{descends}
 use Rattle.saved_lines.specs.Lines.{passed, patterns_checked, lines_checked, Checked, nearest_line}
 use Rattle.saved_lines.specs.Rows.{row_looked, row_found, Queried, queries_checked, nearest_lines}
 use Rattle.saved_lines.specs.Outcomes.{Fitting, RowEnds, lengths_differ, row_list_refused, bad_query, queries_descend, looked}
-use Rattle.saved_lines.proofs.Checking.{list_given_passes}
+use Rattle.saved_lines.proofs.Checking.{checked_passes}
 use Rattle.saved_lines.proofs.Refusals.{descent, finite_before, bad_there, bad_first, checks_end}
 use Rattle.saved_lines.proofs.RowPatterns.{found_at, count_most}
 
@@ -42,7 +42,7 @@ module _ (l qs : List ℕ) (c : Checked l) (d : Queried qs) where
 
   -- the positions are request 2's, one by one
   pub one_by_one : (k : ℕ) → k < length qs → nearest_line l (get_or qs k 0) ≡ gives (get_or (row_found (pattern_values l) (pattern_values qs)) k 0)
-  one_by_one k b = list_given_passes l (get_or qs k 0) c (all_finite qs d.finite k b) ∙ sym (found_is (found_at (pattern_values l) qs k b))
+  one_by_one k b = checked_passes l (get_or qs k 0) c (all_finite qs d.finite k b) ∙ sym (found_is (found_at (pattern_values l) qs k b))
     where
       found_is : {m n : ℕ} → m ≡ n → gives m ≡ gives n
       found_is e = cc

@@ -44,8 +44,8 @@ repeats_drop vs n h = neighbours_drop equals (pos 0) vs n h
 tail_is : (l : List ℕ) (n : ℕ) → take (length l - n) (drop n l) ≡ drop n l
 tail_is l n = take_all (length l - n) (drop n l) (omega (arith, length-drop n l))
 
-list_given_drop : (l : List ℕ) (n : ℕ) → n < length l → Checked l → Checked (drop n l)
-list_given_drop l n h s =
+checked_drop : (l : List ℕ) (n : ℕ) → n < length l → Checked l → Checked (drop n l)
+checked_drop l n h s =
     record {
       some = omega (arith, length-drop n l);
       most = omega (arith, length-drop n l, s.most);
@@ -54,8 +54,8 @@ list_given_drop l n h s =
       strict = ap repeats (map_drop pattern_value n l) ∙ repeats_drop (pattern_values l) n s.strict;
     }
 
-pub list_given_tail : (l : List ℕ) (n : ℕ) → n < length l → Checked l → Checked (take (length l - n) (drop n l))
-list_given_tail l n h s = rw (tail_is l n) (list_given_drop l n h s)
+pub checked_tail : (l : List ℕ) (n : ℕ) → n < length l → Checked l → Checked (take (length l - n) (drop n l))
+checked_tail l n h s = rw (tail_is l n) (checked_drop l n h s)
 
 -- ---- the walk: each line before i - 1 is followed by a closer one
 abbrev pub Nearing : (l : List ℕ) (q i : ℕ) → Type 0
@@ -95,10 +95,12 @@ module _ (l : List ℕ) (s : Checked l) (q i : ℕ) (p : 1 ≤ i) (m : Nearing l
       let e : i + 1 ≡ i - 1 + 2 = omega arith in
       (r.0, e ∙ r.1)
 
-  pub ended_at : i ≡ length l → (i - 1 ≡ nearest (pattern_values l) (pattern_value q)) × (i ≡ looked (pattern_value q) (pattern_values l))
-  ended_at h =
-      let r = ended l s q (i - 1) (rw here h) (rw here m) in
-      (r.0, sym here ∙ r.1)
+pub ended_at : (l : List ℕ) (s : Checked l) (q : ℕ) → Nearing l q (length l)
+    → (length l - 1 ≡ nearest (pattern_values l) (pattern_value q)) × (length l ≡ looked (pattern_value q) (pattern_values l))
+ended_at l s q m =
+    let e : suc (length l - 1) ≡ length l = omega (arith, s.some) in
+    let r = ended l s q (length l - 1) e (rw e m) in
+    (r.0, sym e ∙ r.1)
 
 -- ---- the row
 -- what was written: the first i of what is to be found, and then what the slice held
@@ -121,15 +123,16 @@ write_more found old i v {out} h g e w =
 
 -- the loop over the queries, where the next one is i and starts at the line p
 pub record Gone (l qs old : List ℕ) (p count i : ℕ) (out : List ℕ) : Type 0 where
+  pub inside : p < length l
+  pub few : count ≤ p + 2 * i
   pub counted : count + row_looked (pattern_values l) p (pattern_values (drop i qs)) ≡ row_looked (pattern_values l) 0 (pattern_values qs)
   pub written : out ≡ take i (row_found (pattern_values l) (pattern_values qs)) ++ drop i old
   pub ahead : (k : ℕ) → i ≤ k → k < length qs → Left (pattern_values l) (pattern_value (get_or qs k 0)) p
 
-pub gone_first : (l qs old : List ℕ) → Gone l qs old 0 0 0 old
-gone_first l qs old = record { counted = zero-add _; written = refl; ahead = λ k a b j c. absurd (omega arith) }
+pub gone_first : (l qs old : List ℕ) → Checked l → Gone l qs old 0 0 0 old
+gone_first l qs old s = record { inside = s.some; few = omega arith; counted = zero-add _; written = refl; ahead = λ k a b j c. absurd (omega arith) }
 
-module _ (l : List ℕ) (s : Checked l) (qs : List ℕ) (qd : Queried qs) (p i : ℕ) (h : p < length l) (g : i < length qs)
-    (b : Left (pattern_values l) (pattern_value (get_or qs i 0)) p) {m c : ℕ}
+module _ (l : List ℕ) (s : Checked l) (qs : List ℕ) (qd : Queried qs) {old out : List ℕ} {p count i : ℕ} (r : Gone l qs old p count i out) (g : i < length qs) {m c : ℕ}
     (e : m ≡ nearest (pattern_values (take (length l - p) (drop p l))) (pattern_value (get_or qs i 0)))
     (f : c ≡ looked (pattern_value (get_or qs i 0)) (pattern_values (take (length l - p) (drop p l)))) where
   abbrev vs : List ℤ
@@ -141,34 +144,35 @@ module _ (l : List ℕ) (s : Checked l) (qs : List ℕ) (qd : Queried qs) (p i :
   tail_offsets : pattern_values (take (length l - p) (drop p l)) ≡ drop p vs
   tail_offsets = ap pattern_values (tail_is l p) ∙ map_drop pattern_value p l
 
-  inside : p < length vs
-  inside = omega (arith, values_length l)
-
   step_nearest : p + m ≡ nearest vs q
-  step_nearest = ap (λ (k : ℕ). p + k) (e ∙ ap (λ (ws : List ℤ). nearest ws q) tail_offsets) ∙ sym (nearest_ahead vs q p inside b)
+  step_nearest =
+      ap (λ (k : ℕ). p + k) (e ∙ ap (λ (ws : List ℤ). nearest ws q) tail_offsets)
+      ∙ sym (nearest_ahead vs q p (omega (arith, r.inside, values_length l)) (r.ahead i (omega arith) g))
 
   pub step_place : p + m < length l
   step_place = omega (arith, step_nearest, nearest_position vs q (values_some l s), values_length l)
 
   pub step_looked : c ≤ m + 2
   step_looked =
-      let t = list_given_tail l p h s in
+      let t = checked_tail l p r.inside s in
       omega (arith, e, f, looked_most q (pattern_values (take (length l - p) (drop p l))) (offsets_rise _ t) (values_some _ t))
 
-  counted_more : (count : ℕ) {all : ℕ} → count + row_looked vs p (pattern_values (drop i qs)) ≡ all → count + c + row_looked vs (p + m) (pattern_values (drop (i + 1) qs)) ≡ all
+  counted_more : count + c + row_looked vs (p + m) (pattern_values (drop (i + 1) qs)) ≡ row_looked vs 0 (pattern_values qs)
   unfolding row_looked
-  counted_more count {all} r =
+  counted_more =
       let a : row_looked vs p (pattern_values (drop i qs)) ≡ looked q (drop p vs) + row_looked vs (nearest vs q) (pattern_values (drop (suc i) qs)) =
       ap (λ (xs : List ℕ). row_looked vs p (pattern_values xs)) (drop-cons qs i 0 g) in
       let x : row_looked vs (p + m) (pattern_values (drop (i + 1) qs)) ≡ row_looked vs (nearest vs q) (pattern_values (drop (suc i) qs)) =
       ap₂ (λ (n : ℕ) (j : ℕ). row_looked vs n (pattern_values (drop j qs))) step_nearest (add-one i) in
       let y : c ≡ looked q (drop p vs) = f ∙ ap (looked q) tail_offsets in
-      omega (arith, a, x, y, r)
+      omega (arith, a, x, y, r.counted)
 
-  pub gone_more : {old out : List ℕ} {count : ℕ} → length old ≡ length qs → Gone l qs old p count i out → Gone l qs old (p + m) (count + c) (i + 1) (set out i (p + m))
-  gone_more {old} {out} {count} n r =
+  pub gone_more : length old ≡ length qs → Gone l qs old (p + m) (count + c) (i + 1) (set out i (p + m))
+  gone_more n =
       record {
-        counted = counted_more count r.counted;
+        inside = step_place;
+        few = omega (arith, r.few, step_looked);
+        counted = counted_more;
         written = write_more (row_found vs (pattern_values qs)) old i (p + m) (omega (arith, found_length vs qs)) (omega arith) (step_nearest ∙ sym (found_at vs qs i g)) r.written;
         ahead = λ k a d. rw step_nearest (left_behind vs (offsets_rise l s) (values_some l s) q (pattern_value (get_or qs k 0)) (later k a d));
       }
@@ -177,7 +181,7 @@ module _ (l : List ℕ) (s : Checked l) (qs : List ℕ) (qd : Queried qs) (p i :
       later k a d = rw (← value_at qs i, ← value_at qs k) (ascends (pattern_values qs) qd.order i k (omega arith) (omega (arith, values_length qs)))
 
 -- all queries are gone through
-module _ (l qs old out : List ℕ) (p count i : ℕ) (g : Gone l qs old p count i out) (e : i ≡ length qs) where
+module _ {l qs old out : List ℕ} {p count i : ℕ} (g : Gone l qs old p count i out) (e : i ≡ length qs) where
   pub gone_count : count ≡ row_looked (pattern_values l) 0 (pattern_values qs)
   unfolding row_looked
   gone_count =

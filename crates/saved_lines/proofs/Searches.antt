@@ -1,16 +1,19 @@
--- The tests of a binary search: on a list that ascends they pass from some position on.
-use Rattle.theory.proofs.Prelude.{ℕ, ◌≤◌, ◌<◌, ◌+◌, true, false, Bool, not, List, ◌∙◌, ap, ◌≡◌, sym, refl, arith, ℤ, pos, ◌+ℤ◌, length, get_or, lt_z, le_z, not-true, not-false}
+-- The tests of a binary search: on a list that ascends they pass from some position on, which the search finds.
+use Rattle.theory.proofs.Prelude.{ℕ, ◌≤◌, ◌<◌, true, false, Bool, not, List, ◌∙◌, ap, ◌≡◌, sym, refl, arith, ℤ, pos, ◌+ℤ◌, length, get_or, lt_z, le_z, not-true, not-false}
+use Rattle.std.proofs.lemmas.List.{get_or_default}
+use Rattle.std.proofs.lemmas.List.Sorted.{IsPartitionPoint-from_clause}
+use Rattle.std.specs.Fn.{Called, ComputesKey}
+use Rattle.std.specs.List.Sorted.{IsPartitionedBy, IsPartitionPoint}
+use denote.Param.Members.{Mut}
+use denote.Ref.{Bor}
 use Rattle.theory.specs.Lists.{first_where}
-use Rattle.theory.specs.Tests.{◌and◌}
 use Rattle.theory.proofs.Integers.{sum_parts, parts_eq}
-use Rattle.theory.proofs.Lists.{first_passes}
-use Rattle.theory.proofs.Tests.{never, and_left, and_right}
-use Rattle.binary32.specs.Patterns.{finite, pattern_value}
+use Rattle.theory.proofs.Lists.{first_passes, first_between}
+use Rattle.theory.proofs.Tests.{never}
+use Rattle.binary32.specs.Patterns.{pattern_value}
 use Rattle.binary32.proofs.PatternValues.{zero_value}
 use Rattle.format.proofs.Signed.{Upto, Under, le_true, le_false, lt_true, lt_false, make_le, make_ge}
-use Rattle.saved_lines.specs.declared.Sought.{Sought}
-use Rattle.saved_lines.specs.declared.Sought.TheVariants.{AtLeast, Reaching, Beyond}
-use Rattle.saved_lines.specs.Searches.{passes_of, sought_finite}
+use Rattle.saved_lines.specs.Searches.{at_least, reaching, beyond}
 use Rattle.saved_lines.specs.Lines.{Checked}
 use Rattle.saved_lines.proofs.Offsets.{rising}
 
@@ -24,79 +27,86 @@ make_gt a b h = by (le_z a b) refl
 not_made : {t : Bool} → t ≡ false → not t ≡ true
 not_made e = ap not e
 
--- a greater offset passes too
-passes_later : (s : Sought) (m n : ℕ) → Upto (pattern_value m) (pattern_value n) → passes_of s m ≡ true → passes_of s n ≡ true
-unfolding passes_of
-passes_later (AtLeast x) m n h t =
-    not_made (make_ge (pattern_value n) (pattern_value x) (omega (arith, lt_false (pattern_value m) (pattern_value x) (not-true _ t))))
-passes_later (Reaching q r) m n h t =
-    make_le (pattern_value q) (pattern_value n +ℤ pattern_value r)
-    (omega (arith, le_true (pattern_value q) (pattern_value m +ℤ pattern_value r) t, sum_parts (pattern_value m) (pattern_value r), sum_parts (pattern_value n) (pattern_value r)))
-passes_later (Beyond q r) m n h t =
-    not_made (make_gt (pattern_value n) (pattern_value q +ℤ pattern_value r) (omega (arith, le_false (pattern_value m) (pattern_value q +ℤ pattern_value r) (not-true _ t))))
+not_not : (t : Bool) → t ≡ not (not t)
+not_not true = refl
+not_not false = refl
 
--- ---- the two halves
-abbrev pub Fails : (l : List ℕ) (s : Sought) (low : ℕ) → Type 0
-Fails l s low = (k : ℕ) → k < low → passes_of s (get_or l k 0) ≡ false
+-- ---- a greater offset passes too
+pub record Later (test : ℕ → Bool) : Type 0 where
+  pub later : (m n : ℕ) → Upto (pattern_value m) (pattern_value n) → test m ≡ true → test n ≡ true
 
-abbrev pub Passes : (l : List ℕ) (s : Sought) (high : ℕ) → Type 0
-Passes l s high = (k : ℕ) → high ≤ k → k < length l → passes_of s (get_or l k 0) ≡ true
+pub later_at_least : (x : ℕ) → Later (at_least x)
+unfolding at_least
+later_at_least x =
+    record { later = λ m n h t. not_made (make_ge (pattern_value n) (pattern_value x) (omega (arith, lt_false (pattern_value m) (pattern_value x) (not-true _ t)))) }
 
-module _ (l : List ℕ) (c : Checked l) (s : Sought) (middle : ℕ) (h : middle < length l) where
-  pub passes_from : passes_of s (get_or l middle 0) ≡ true → Passes l s middle
-  passes_from t k m n = passes_later s _ _ (rising l c middle k m n) t
+pub later_reaching : (q r : ℕ) → Later (reaching q r)
+unfolding reaching
+later_reaching q r =
+    record {
+      later = λ m n h t.
+          make_le (pattern_value q) (pattern_value n +ℤ pattern_value r)
+          (omega (arith, le_true (pattern_value q) (pattern_value m +ℤ pattern_value r) t, sum_parts (pattern_value m) (pattern_value r), sum_parts (pattern_value n) (pattern_value r)));
+    }
 
-  pub fails_upto : passes_of s (get_or l middle 0) ≡ false → Fails l s (middle + 1)
-  fails_upto t k m = by (passes_of s (get_or l k 0)) refl
+pub later_beyond : (q r : ℕ) → Later (beyond q r)
+unfolding beyond
+later_beyond q r =
+    record {
+      later = λ m n h t.
+          not_made (make_gt (pattern_value n) (pattern_value q +ℤ pattern_value r) (omega (arith, le_false (pattern_value m) (pattern_value q +ℤ pattern_value r) (not-true _ t))));
+    }
+
+-- ---- on a list that ascends
+module _ (l : List ℕ) (c : Checked l) {test : ℕ → Bool} (s : Later test) where
+  -- from the first position that passes on, all pass
+  pub from_first : (k : ℕ) → first_where test l ≤ k → k < length l → test (get_or l k 0) ≡ true
+  from_first k h m =
+      s.later _ _ (rising l c (first_where test l) k h m) (first_passes test 0 l (omega arith))
+
+  parted : IsPartitionedBy (λ n. not (test n)) l
+  parted i j d h m t = by (test (get_or l i d)) refl
     where
-      by : (b : Bool) → passes_of s (get_or l k 0) ≡ b → b ≡ false
-      by true e = absurd (never (sym (passes_later s _ _ (rising l c k middle (omega arith) h) e) ∙ t))
+      at : (k : ℕ) → k < length l → get_or l k d ≡ get_or l k 0
+      at k a = get_or_default l k d 0 a
+
+      by : (b : Bool) → test (get_or l i d) ≡ b → not b ≡ true
       by false e = refl
+      by true e =
+          absurd (never (sym (ap test (at j m) ∙ s.later _ _ (rising l c i j h m) (sym (ap test (at i (omega arith))) ∙ e)) ∙ not-true _ t))
+
+  -- the search for the last that fails finds it
+  pub searched : {F : Type 0} {g : Mut F (Bor ℕ × Unit {0}) Bool} {f : F} {i : ℕ} → i ≤ length l
+      → ((p : ℕ → Bool) → ComputesKey g p f → IsPartitionedBy p l → IsPartitionPoint (λ n. p n ≡ true) (λ n. p n ≡ false) l i)
+      → ((a : Bor ℕ × Unit {0}) (r : Bool) (f' : F) → Called g f a r f' → (r ≡ not (test a.0.now)) × (f' ≡ f)) → i ≡ first_where test l
+  searched {i = i} h clause told =
+      let point = IsPartitionPoint-from_clause (λ n. not (test n)) l i clause parted told in
+      sym (first_between test 0 l i h (λ k m. not-true _ (point.0 k 0 (omega arith) m)) (λ k a m. not-false _ (point.1 k 0 a m)))
 
 -- ---- the test that was told: a number is compared as its sum with zero
-pub zero_finite : finite 0 ≡ true
-unfolding finite
-zero_finite = refl
-
 plus_zero : (n : ℕ) → pattern_value n +ℤ pattern_value 0 ≡ pattern_value n
 plus_zero n =
     ap (λ (z : ℤ). pattern_value n +ℤ z) zero_value
     ∙ parts_eq (pattern_value n +ℤ pos 0) (pattern_value n) (omega (arith, sum_parts (pattern_value n) (pos 0)))
 
-module _ {s : Sought} (n : ℕ) where
-  pub told_at_least : {x : ℕ} {t : Bool} → s ≡ AtLeast x → t ≡ lt_z (pattern_value n) (pattern_value x) → not t ≡ passes_of s n
-  unfolding passes_of
-  told_at_least e h = rw e (ap not h)
+pub told_at_least : (x n : ℕ) {t : Bool} → t ≡ lt_z (pattern_value n) (pattern_value x) → t ≡ not (at_least x n)
+unfolding at_least
+told_at_least x n h = h ∙ not_not _
 
-  pub told_reaching : {q r : ℕ} {t : Bool} → s ≡ Reaching q r → t ≡ le_z (pattern_value q +ℤ pattern_value 0) (pattern_value n +ℤ pattern_value r) → t ≡ passes_of s n
-  unfolding passes_of
-  told_reaching {q} {r} e h = rw e (h ∙ ap (λ (v : ℤ). le_z v (pattern_value n +ℤ pattern_value r)) (plus_zero q))
+pub told_reaching : (q r n : ℕ) {t : Bool} → t ≡ not (le_z (pattern_value q +ℤ pattern_value 0) (pattern_value n +ℤ pattern_value r)) → t ≡ not (reaching q r n)
+unfolding reaching
+told_reaching q r n h = h ∙ ap (λ (v : ℤ). not (le_z v (pattern_value n +ℤ pattern_value r))) (plus_zero q)
 
-  pub told_beyond : {q r : ℕ} {t : Bool} → s ≡ Beyond q r → t ≡ le_z (pattern_value n +ℤ pattern_value 0) (pattern_value q +ℤ pattern_value r) → not t ≡ passes_of s n
-  unfolding passes_of
-  told_beyond {q} {r} e h = rw e (ap not (h ∙ ap (λ (v : ℤ). le_z v (pattern_value q +ℤ pattern_value r)) (plus_zero n)))
-
-pub reaching_finite : {s : Sought} {q r : ℕ} → s ≡ Reaching q r → sought_finite s ≡ true → (finite q ≡ true) × (finite r ≡ true)
-reaching_finite {s} {q} {r} e h =
-    let k : finite q and finite r ≡ true = sym (ap sought_finite e) ∙ h in
-    (and_left _ _ k, and_right _ _ k)
-
-pub beyond_finite : {s : Sought} {q r : ℕ} → s ≡ Beyond q r → sought_finite s ≡ true → (finite q ≡ true) × (finite r ≡ true)
-beyond_finite {s} {q} {r} e h =
-    let k : finite q and finite r ≡ true = sym (ap sought_finite e) ∙ h in
-    (and_left _ _ k, and_right _ _ k)
+pub told_beyond : (q r n : ℕ) {t : Bool} → t ≡ le_z (pattern_value n +ℤ pattern_value 0) (pattern_value q +ℤ pattern_value r) → t ≡ not (beyond q r n)
+unfolding beyond
+told_beyond q r n h = h ∙ ap (λ (v : ℤ). le_z v (pattern_value q +ℤ pattern_value r)) (plus_zero n) ∙ not_not _
 
 -- ---- what the first test says of the values
 module _ (x n : ℕ) where
-  pub below_number : passes_of (AtLeast x) n ≡ false → Under (pattern_value n) (pattern_value x)
-  unfolding passes_of
+  pub below_number : at_least x n ≡ false → Under (pattern_value n) (pattern_value x)
+  unfolding at_least
   below_number h = lt_true (pattern_value n) (pattern_value x) (not-false _ h)
 
-  pub from_number : passes_of (AtLeast x) n ≡ true → Upto (pattern_value x) (pattern_value n)
-  unfolding passes_of
+  pub from_number : at_least x n ≡ true → Upto (pattern_value x) (pattern_value n)
+  unfolding at_least
   from_number h = lt_false (pattern_value n) (pattern_value x) (not-true _ h)
-
--- from the first position that passes on, all pass
-pub from_first : (l : List ℕ) → Checked l → (s : Sought) → Passes l s (first_where (passes_of s) l)
-from_first l c s k h m =
-    passes_from l c s (first_where (passes_of s) l) (omega arith) (first_passes (passes_of s) 0 l (omega arith)) k h m

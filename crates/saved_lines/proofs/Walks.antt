@@ -1,7 +1,7 @@
 -- The walk outward: the nearest of the positions that are left stands at the inner end of one of the two ranges.
-use Rattle.theory.proofs.Prelude.{ℕ, ◌≤◌, ◌<◌, ◌+◌, ◌-◌, suc, zero, true, false, Bool, [], ◌∷◌, List, ◌++◌, append-nil, map, ◌∙◌, ap, ◌≡◌, sym, refl, ap₂, dec_le, add-one, arith, ℤ, length, get_or, drop, take, set, length-map}
-use lib.ListN.{length-append, length-set, take-append-drop}
-use lib.Seq.{get_or_at, get_or-append-add, take-suc-set, drop-set-lt, drop-drop}
+use Rattle.theory.proofs.Prelude.{ℕ, ◌≤◌, ◌<◌, ◌+◌, ◌-◌, suc, zero, true, false, Bool, [], ◌∷◌, List, ◌++◌, append-nil, map, ◌∙◌, ap, ◌≡◌, sym, refl, ap₂, dec_le, add-one, arith, ℤ, length, get_or, take, set, length-map, take_all}
+use lib.ListN.{length-append}
+use lib.Seq.{get_or_at, get_or-append-add, take-suc-set}
 use Rattle.binary32.specs.Patterns.{pattern_value, pattern_values}
 use Rattle.binary32.proofs.PatternValues.{value_at, values_length}
 use Rattle.format.proofs.Signed.{Upto, Under}
@@ -201,36 +201,28 @@ snoc [] y ys = refl
 snoc (x ∷ xs) y ys = ap (λ (zs : List ℕ). x ∷ zs) (snoc xs y ys)
 
 -- i positions are written: what is written, then what is left in its order, is the whole in its order
-pub record Written (l : List ℕ) (q first end : ℕ) (old out : List ℕ) (left right i : ℕ) : Type 0 where
+pub record Written (l : List ℕ) (q first end : ℕ) (out : List ℕ) (left right i : ℕ) : Type 0 where
   pub walk : Walk l q first left right end
   pub count : i + (left - first) + (end - right) ≡ end - first
-  pub long : length out ≡ length old
-  pub rest : drop i out ≡ drop i old
   pub so_far : take i out ++ nearest_first (pattern_values l) (pattern_value q) (outside first left right end) ≡ nearest_first (pattern_values l) (pattern_value q) (range first (end - first))
 
-module _ (l : List ℕ) (q first end : ℕ) (old : List ℕ) where
-  pub none_written : (split : ℕ) → Walk l q first split split end → Written l q first end old old split split 0
-  none_written split w =
+module _ (l : List ℕ) (q first end : ℕ) {out : List ℕ} where
+  pub none_written : (left right : ℕ) → right ≡ left → Walk l q first left right end → Written l q first end out left right 0
+  none_written left right e w =
       record {
         walk = w;
         count = omega (arith, w.low, w.high);
-        long = refl;
-        rest = refl;
-        so_far = ap (nearest_first (pattern_values l) (pattern_value q)) (outside_whole first split end w.low w.high);
+        so_far = ap (nearest_first (pattern_values l) (pattern_value q)) (rw e (outside_whole first left end w.low (omega (arith, w.high))));
       }
 
-  pub all_written : {out : List ℕ} {left right i : ℕ} → Written l q first end old out left right i → i ≡ end - first
-      → out ≡ nearest_first (pattern_values l) (pattern_value q) (range first (end - first)) ++ drop (end - first) old
-  all_written {out} {left} {right} {i} w e =
-      sym (take-append-drop i out) ∙ ap (λ (xs : List ℕ). xs ++ drop i out) done ∙ ap (λ (ys : List ℕ). nearest_first (pattern_values l) (pattern_value q) (range first (end - first)) ++ ys) (w.rest ∙ ap (λ (n : ℕ). drop n old) e)
+  pub all_written : {left right i : ℕ} → Written l q first end out left right i → i ≡ end - first → length out ≤ i
+      → out ≡ nearest_first (pattern_values l) (pattern_value q) (range first (end - first))
+  all_written {left} {right} {i} w e h = sym (take_all i out h) ∙ sym (append-nil (take i out)) ∙ ap (λ (xs : List ℕ). take i out ++ xs) (sym none_left) ∙ w.so_far
     where
       none_left : nearest_first (pattern_values l) (pattern_value q) (outside first left right end) ≡ []
       none_left = nearest_nothing (pattern_values l) (pattern_value q) (outside first left right end) (omega (arith, outside_length first left right end, w.count))
 
-      done : take i out ≡ nearest_first (pattern_values l) (pattern_value q) (range first (end - first))
-      done = sym (append-nil (take i out)) ∙ ap (λ (xs : List ℕ). take i out ++ xs) (sym none_left) ∙ w.so_far
-
-  module _ {out : List ℕ} {left right i : ℕ} (w : Written l q first end old out left right i) (h : i < length out) where
+  module _ {left right i : ℕ} (w : Written l q first end out left right i) (h : i < length out) where
     abbrev left_over : List ℕ
     left_over = outside first left right end
 
@@ -243,21 +235,12 @@ module _ (l : List ℕ) (q first end : ℕ) (old : List ℕ) where
         (sym (nearest_then (pattern_values l) (pattern_value q) left_over e m ∙ ap₂ (λ (x : ℕ) (xs : List ℕ). x ∷ nearest_first (pattern_values l) (pattern_value q) xs) f g))
         ∙ w.so_far)
 
-    rest_more : (r : ℕ) → drop (i + 1) (set out i r) ≡ drop (i + 1) old
-    rest_more r =
-        drop-set-lt (i + 1) out i r (omega arith)
-        ∙ sym (drop-drop 1 i out)
-        ∙ ap (drop 1) w.rest
-        ∙ drop-drop 1 i old
-
-    pub went_left : (r : ℕ) → Next l q first left right end r → r < left → Written l q first end old (set out i r) r right (i + 1)
+    pub went_left : (r : ℕ) → Next l q first left right end r → r < left → Written l q first end (set out i r) r right (i + 1)
     went_left r (after e f g) b = absurd (omega (arith, w.walk.below, w.walk.above))
     went_left r (before e f g) b =
         record {
           walk = record { low = f; below = omega (arith, w.walk.below); above = w.walk.above; high = w.walk.high; most = w.walk.most };
           count = omega (arith, w.count);
-          long = length-set out i r ∙ w.long;
-          rest = rest_more r;
           so_far = more g (omega (arith, outside_length first left right end))
               (ap (λ (xs : List ℕ). get_or xs (r - first) 0) split ∙ get_or_at (range first (r - first)) r (range right (end - right)) 0 (r - first) (range_length first (r - first)))
               (ap (without (r - first)) split ∙ without_at (range first (r - first)) r (range right (end - right)) (r - first) (range_length first (r - first)));
@@ -266,14 +249,12 @@ module _ (l : List ℕ) (q first end : ℕ) (old : List ℕ) where
         split : left_over ≡ range first (r - first) ++ r ∷ range right (end - right)
         split = ap (λ (n : ℕ). outside first n right end) (sym e) ∙ outside_before first r right end f
 
-    pub went_right : (r : ℕ) → Next l q first left right end r → left ≤ r → Written l q first end old (set out i r) left (r + 1) (i + 1)
+    pub went_right : (r : ℕ) → Next l q first left right end r → left ≤ r → Written l q first end (set out i r) left (r + 1) (i + 1)
     went_right r (before e f g) b = absurd (omega arith)
     went_right r (after e f g) b =
         record {
           walk = record { low = w.walk.low; below = w.walk.below; above = omega (arith, w.walk.above); high = omega arith; most = w.walk.most };
           count = omega (arith, w.count);
-          long = length-set out i r ∙ w.long;
-          rest = rest_more r;
           so_far = more g (omega (arith, outside_length first left right end))
               (ap (λ (xs : List ℕ). get_or xs (left - first) 0) split ∙ get_or_at (range first (left - first)) right (range (suc right) (end - suc right)) 0 (left - first) (range_length first (left - first)) ∙ sym e)
               (ap (without (left - first)) split ∙ without_at (range first (left - first)) right (range (suc right) (end - suc right)) (left - first) (range_length first (left - first)) ∙ next);

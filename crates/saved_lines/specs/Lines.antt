@@ -3,20 +3,9 @@ use Rattle.std.specs.Prelude.{ℕ, ◌≤◌, ◌≡◌, Bool, true, false, not,
 use Rattle.theory.specs.Lists.{first_where, none}
 use Rattle.theory.specs.Tests.{◌and◌, unless}
 use Rattle.format.specs.Given.{Given, gives, refused, refused_at, ◌then◌}
-use Rattle.format.specs.Refusals.{refusal_number}
 use Rattle.binary32.specs.Patterns.{finite, not_finite, pattern_value, pattern_values}
-use Rattle.saved_lines.specs.declared.Check.{Check}
-use Rattle.saved_lines.specs.declared.Check.TheVariants as check
-use Rattle.saved_lines.specs.declared.LineAnswer.{LineAnswer}
-use Rattle.saved_lines.specs.declared.LineAnswer.TheVariants as answer
 use Rattle.saved_lines.specs.Offsets.{nearest, nearest_first, is_within, descends, repeats}
 use Rattle.saved_lines.specs.Positions.{positions_where}
-
--- ---- the answers in the requests' numbers
-abbrev pub line_given : LineAnswer → Given ℕ
-line_given (answer.Found n) = gives n
-line_given (answer.Refused why) = refused (refusal_number why)
-line_given (answer.RefusedAt why index) = refused_at (refusal_number why) index
 
 -- an examination passes or is refused
 abbrev pub Examination : Type 0
@@ -24,11 +13,6 @@ Examination = Given (Unit {0})
 
 abbrev pub passed : Examination
 passed = gives tt
-
-abbrev pub list_given : Check → Examination
-list_given check.Passed = passed
-list_given (check.Refused why) = refused (refusal_number why)
-list_given (check.RefusedAt why index) = refused_at (refusal_number why) index
 
 -- ---- the checks
 -- 9 for the first pattern that is not finite, with its index; else what comes after

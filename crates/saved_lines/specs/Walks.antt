@@ -2,17 +2,16 @@
 use Rattle.std.specs.Prelude.{ℕ, suc, ◌-◌, ◌≤◌, ◌<◌, ◌≡◌, List, ◌++◌, length}
 use Rattle.theory.specs.Lists.{first_where}
 use Rattle.binary32.specs.Patterns.{pattern_value, pattern_values}
-use Rattle.saved_lines.specs.declared.Sought.TheVariants.{AtLeast}
 use Rattle.saved_lines.specs.Offsets.{nearest_place}
 use Rattle.saved_lines.specs.Positions.{range}
-use Rattle.saved_lines.specs.Searches.{passes_of}
+use Rattle.saved_lines.specs.Searches.{at_least}
 use Rattle.saved_lines.specs.Lines.{lines_found}
 
 -- the positions from `first` up to `left`, all below the query, and from `right` up to `end`, all from the query on
 pub record Walk (l : List ℕ) (query first left right end : ℕ) : Type 0 where
   pub low : first ≤ left
-  pub below : left ≤ first_where (passes_of (AtLeast query)) l
-  pub above : first_where (passes_of (AtLeast query)) l ≤ right
+  pub below : left ≤ first_where (at_least query) l
+  pub above : first_where (at_least query) l ≤ right
   pub high : right ≤ end
   pub most : end ≤ length l
 

@@ -2,8 +2,7 @@
 // `calmer_refusal` tells. What the two calls answer is proved; what is printed is compared.
 #![tactic(auto)]
 
-use format::refusals::refusal_number;
-use receivers::StretchCheck;
+use format::ListRefusal;
 use receivers::stretch::{calmer_refusal, calmer_stretch};
 use std::io;
 
@@ -12,26 +11,24 @@ fn put_pattern(rt: &impl Print, pattern: u32) -> io::Result<()> {
 }
 
 fn put_part(rt: &impl Print, part: &[u32]) -> io::Result<()> {
-    if part.len() == 0 {
+    if part.is_empty() {
         print!(rt; " empty")?;
     }
-    let mut i = 0;
-    while i < part.len() {
-        put_pattern(rt, part[i])?;
-        i += 1;
+    for &pattern in part {
+        put_pattern(rt, pattern)?;
     }
     Ok(())
 }
 
-fn put_refusal(rt: &impl Print, check: StretchCheck) -> io::Result<()> {
+fn put_refusal(rt: &impl Print, check: Result<(), ListRefusal>) -> io::Result<()> {
     match check {
-        StretchCheck::Passed => println!(rt; ", passed"),
-        StretchCheck::Refused(why) => {
-            let number = refusal_number(why);
+        Ok(()) => println!(rt; ", passed"),
+        Err(ListRefusal::Whole(why)) => {
+            let number = u32::from(why);
             println!(rt; ", refused {number}")
         }
-        StretchCheck::RefusedAt(why, index) => {
-            let number = refusal_number(why);
+        Err(ListRefusal::Entry(why, index)) => {
+            let number = u32::from(why);
             println!(rt; ", refused {number} at {index}")
         }
     }

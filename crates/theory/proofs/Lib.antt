@@ -3,6 +3,8 @@
 pub mod Prelude
 pub mod Words
 pub mod Tests
+pub mod Directions
+pub mod Results
 pub mod Lists
 pub mod Powers
 pub mod Multiples

@@ -1,5 +1,6 @@
 -- A number format without its exponents' limits: base β, p digits, values in units of β ^ Emin. Definitions only; their laws are in proofs/.
 pub mod Tests
+pub mod Directions
 pub mod Lists
 pub mod Place
 pub mod Wide

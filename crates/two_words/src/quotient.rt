@@ -12,13 +12,6 @@ pub fn high_quotient(high: u64, j: u32) -> u64
     high << 1 << (63 - j)
 }
 
-// What a has more than b, or 0.
-fn excess(a: u64, b: u64) -> u64
-    ensures { result ≡ a - b }
-{
-    if b <= a { a - b } else { 0 }
-}
-
 // One digit of 32 bits: h * 2^32 + l divided by d, whose top bit is set. The upper half of d guesses the digit, at most 2 too large;
 // what the guess lacks, which fits a word, says how much. Values are selected and not branched on: no branch would be predicted.
 fn digit(h: u64, l: u64, d: u64) -> WordQuotient
@@ -29,8 +22,8 @@ fn digit(h: u64, l: u64, d: u64) -> WordQuotient
     let guess = h / upper;
     let have = h % upper * 0x1_0000_0000 + l;
     let want = guess * (d % 0x1_0000_0000);
-    let lack = excess(want, have);
-    let spare = excess(have, want);
+    let lack = want.saturating_sub(have);
+    let spare = have.saturating_sub(want);
     let quotient = guess - (0 < lack) as u64 - (d < lack) as u64;
     let short = if d < lack { d - (lack - d) } else { d - lack };
     let remainder = if 0 < lack { short } else { spare };
@@ -59,7 +52,7 @@ fn divide_long(h: u64, l: u64, d: u64) -> WordQuotient
     requires { h < d }
     ensures { (result.quotient ≡ (h * 2 ^ 64 + l) / d) × (result.remainder ≡ (h * 2 ^ 64 + l) % d) }
 {
-    let s = u64::leading_zeros(d);
+    let s = d.leading_zeros();
     let top = (h << s) + ((l / 2) >> (63 - s));
     let r = divide_normal(top, l << s, d << s);
     WordQuotient {

@@ -5,7 +5,7 @@ use Rattle.theory.proofs.Powers.{pow_pos}
 use Rattle.theory.proofs.Neighbours.{le_upper}
 use Rattle.theory.proofs.Integers.{size_signed, no_sign, sign_or_law}
 use Rattle.theory.proofs.Faithful.{predecessor_pos, predecessor_neg, successor_pos, successor_neg}
-use Rattle.format.specs.declared.Preparation.TheVariants.{Ready}
+use Rattle.std.specs.Prelude.{Ok}
 use Rattle.number.specs.declared.Number.{Number}
 use Rattle.number.proofs.Prelude.{Format, Prepared, Given, Admitted, positional, place_of, magnitude, value, delivered, entered, Member, members, known, passed, operand, answered}
 use Rattle.number.proofs.Comparison.{no_size}
@@ -24,7 +24,7 @@ below_zero_law zero h = absurd (omega arith)
 below_zero_law (suc n) h = ap negsuc (omega arith)
 
 -- what the calls answer after the check, by what away and toward answer
-module _ (f : Format) (x : Number) {q : Prepared} (h : entered f [] (x ∷ []) ≡ Ready q) where
+module _ (f : Format) (x : Number) {q : Prepared} (h : entered f [] (x ∷ []) ≡ Ok q) where
   admits : Admitted q.format
   admits = (known (operand (passed f [] (x ∷ []) h)).usable).admits
 

@@ -2,21 +2,21 @@
 // one step of each other.
 ghost use Rattle.std.specs.Prelude.{◌≡◌, suc, ◌-◌, ◌≤◌, leb};
 ghost use Rattle.theory.specs.Neighbours.{lower, upper};
-ghost use Rattle.number.specs.Answers.{number_given, check_given};
+ghost use Rattle.format.specs.Given.{given};
 ghost use Rattle.number.specs.Checks.{Operand, Operands};
 ghost use Rattle.number.specs.Numbers.{magnitude, value, delivered};
 ghost use Rattle.units.specs.Neighbours.{predecessor_of, successor_of, within_step, within_one_step};
 
-use format::{Format, Preparation, Prepared};
+use format::{Format, Prepared, Refusal};
+use number::Number;
 use number::checks::{enter, enter_two};
 use number::delivery::deliver;
 use number::exponents::place_of;
-use number::{CheckAnswer, Number, NumberAnswer};
 
 // The next greater magnitude, with the sign `negative`. Refuses 5 above the greatest number.
-fn away(prepared: Prepared, x: Number, negative: bool) -> NumberAnswer
+fn away(prepared: Prepared, x: Number, negative: bool) -> Result<Number, Refusal>
     requires { Operand prepared x }
-    ensures { number_given result ≡ delivered prepared.format negative (upper prepared.format.base prepared.format.digits (suc (magnitude prepared.format x))) }
+    ensures { given result ≡ delivered prepared.format negative (upper prepared.format.base prepared.format.digits (suc (magnitude prepared.format x))) }
 {
     let place = place_of(prepared, x);
     let next = x.significand + 1;
@@ -27,9 +27,9 @@ fn away(prepared: Prepared, x: Number, negative: bool) -> NumberAnswer
 }
 
 // The next smaller magnitude, with the sign `negative`. Below a power of the base the step is the smaller one.
-fn toward(prepared: Prepared, x: Number, negative: bool) -> NumberAnswer
+fn toward(prepared: Prepared, x: Number, negative: bool) -> Result<Number, Refusal>
     requires { Operand prepared x × (1 ≤ x.significand) }
-    ensures { number_given result ≡ delivered prepared.format negative (lower prepared.format.base prepared.format.digits (magnitude prepared.format x - 1)) }
+    ensures { given result ≡ delivered prepared.format negative (lower prepared.format.base prepared.format.digits (magnitude prepared.format x - 1)) }
 {
     let place = place_of(prepared, x);
     let m = x.significand;
@@ -43,39 +43,31 @@ fn toward(prepared: Prepared, x: Number, negative: bool) -> NumberAnswer
 }
 
 // The greatest number of the format below x. Refuses 1, 3, 5.
-pub fn predecessor(format: Format, x: Number) -> NumberAnswer
-    ensures { number_given result ≡ predecessor_of format x }
+pub fn predecessor(format: Format, x: Number) -> Result<Number, Refusal>
+    ensures { given result ≡ predecessor_of format x }
 {
-    match enter(format, x) {
-        Preparation::Refused(why) => NumberAnswer::Refused(why),
-        Preparation::Ready(prepared) => {
-            if x.negative {
-                return away(prepared, x, true);
-            }
-            if x.significand == 0 {
-                return away(prepared, x, true);
-            }
-            toward(prepared, x, false)
-        }
+    let prepared = enter(format, x)?;
+    if x.negative {
+        return away(prepared, x, true);
     }
+    if x.significand == 0 {
+        return away(prepared, x, true);
+    }
+    toward(prepared, x, false)
 }
 
 // The least number of the format above x. Refuses 1, 3, 5.
-pub fn successor(format: Format, x: Number) -> NumberAnswer
-    ensures { number_given result ≡ successor_of format x }
+pub fn successor(format: Format, x: Number) -> Result<Number, Refusal>
+    ensures { given result ≡ successor_of format x }
 {
-    match enter(format, x) {
-        Preparation::Refused(why) => NumberAnswer::Refused(why),
-        Preparation::Ready(prepared) => {
-            if x.significand == 0 {
-                return away(prepared, x, false);
-            }
-            if x.negative {
-                return toward(prepared, x, true);
-            }
-            away(prepared, x, false)
-        }
+    let prepared = enter(format, x)?;
+    if x.significand == 0 {
+        return away(prepared, x, false);
     }
+    if x.negative {
+        return toward(prepared, x, true);
+    }
+    away(prepared, x, false)
 }
 
 // Is |y| at most the next greater magnitude than |x|? From the last number below a power of the base to that power it is the step
@@ -114,16 +106,9 @@ fn is_within_one_step(prepared: Prepared, a: Number, b: Number) -> bool
 }
 
 // Is b the value of a, or a neighbour of it in the format? Refuses 1, 3.
-pub fn within_one_step(format: Format, a: Number, b: Number) -> CheckAnswer
-    ensures { check_given result ≡ within_one_step format a b }
+pub fn within_one_step(format: Format, a: Number, b: Number) -> Result<bool, Refusal>
+    ensures { given result ≡ within_one_step format a b }
 {
-    match enter_two(format, a, b) {
-        Preparation::Refused(why) => CheckAnswer::Refused(why),
-        Preparation::Ready(prepared) => {
-            if is_within_one_step(prepared, a, b) {
-                return CheckAnswer::Yes;
-            }
-            CheckAnswer::No
-        }
-    }
+    let prepared = enter_two(format, a, b)?;
+    Ok(is_within_one_step(prepared, a, b))
 }

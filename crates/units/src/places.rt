@@ -1,18 +1,19 @@
 // The first place, the last place and the place of the least nonzero digit. All three are plus zero at either zero.
 ghost use Rattle.std.specs.Prelude.{◌≡◌};
-ghost use Rattle.number.specs.Answers.{number_given};
+ghost use Rattle.format.specs.Given.{given};
 ghost use Rattle.number.specs.Checks.{Operand};
 ghost use Rattle.units.specs.Places.{first_place, last_place, least_place, place_number, place_answer};
 
 use crate::powers_of_base::{leading_power, power_number};
 use format::powers::trailing_zeros;
-use format::{Format, Preparation, Prepared};
+use format::{Format, Prepared, Refusal};
+use number::Number;
 use number::checks::enter;
 use number::exponents::place_of;
 use number::signs::with_sign;
-use number::{Number, NumberAnswer};
 
-#[derive(Clone, Copy)]
+// An enum, since the definitions of specs/Places go by it.
+#[derive(Clone, Copy, Debug, PartialEq, Eq, Hash)]
 enum Place {
     First,
     Last,
@@ -27,7 +28,7 @@ fn first_place(prepared: Prepared, x: Number) -> Number
     Number {
         negative: false,
         significand: leading_power(prepared.scale, x.significand),
-        exponent: exponent,
+        exponent,
     }
 }
 
@@ -67,32 +68,30 @@ fn place_number(place: Place, prepared: Prepared, x: Number) -> Number
 }
 
 // The place after the checks. Refuses 1, 3.
-fn answer_place(place: Place, format: Format, x: Number) -> NumberAnswer
-    ensures { number_given result ≡ place_answer place format x }
+fn answer_place(place: Place, format: Format, x: Number) -> Result<Number, Refusal>
+    ensures { given result ≡ place_answer place format x }
 {
-    match enter(format, x) {
-        Preparation::Refused(why) => NumberAnswer::Refused(why),
-        Preparation::Ready(prepared) => NumberAnswer::Value(place_number(place, prepared, x)),
-    }
+    let prepared = enter(format, x)?;
+    Ok(place_number(place, prepared, x))
 }
 
 // ufp(x), the greatest power of the base not above |x|. Refuses 1, 3.
-pub fn ufp(format: Format, x: Number) -> NumberAnswer
-    ensures { number_given result ≡ first_place format x }
+pub fn ufp(format: Format, x: Number) -> Result<Number, Refusal>
+    ensures { given result ≡ first_place format x }
 {
     answer_place(Place::First, format, x)
 }
 
 // ulp(x), base^e. Refuses 1, 3.
-pub fn ulp(format: Format, x: Number) -> NumberAnswer
-    ensures { number_given result ≡ last_place format x }
+pub fn ulp(format: Format, x: Number) -> Result<Number, Refusal>
+    ensures { given result ≡ last_place format x }
 {
     answer_place(Place::Last, format, x)
 }
 
 // uls(x), the place of the least nonzero digit. Refuses 1, 3.
-pub fn uls(format: Format, x: Number) -> NumberAnswer
-    ensures { number_given result ≡ least_place format x }
+pub fn uls(format: Format, x: Number) -> Result<Number, Refusal>
+    ensures { given result ≡ least_place format x }
 {
     answer_place(Place::Least, format, x)
 }

@@ -22,7 +22,7 @@ pub fn power_number(prepared: Prepared, k: u32) -> Number
     number_at(prepared, false, prepared.scale.least, k + 1 - digits)
 }
 
-// The greatest power of the base that is at most m; 0 at 0.
+// The greatest power of the base that is at most m; 0 at 0. The loop goes over no list: each turn makes a power from the one before.
 pub fn leading_power(scale: Scale, m: Significand) -> Significand
     requires { Scaled scale × (m < scale.bound) }
     ensures { result ≡ ufp scale.base m }

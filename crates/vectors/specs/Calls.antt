@@ -3,8 +3,8 @@ use Rattle.std.specs.Prelude.{ℕ, ◌%◌, ◌^◌, Bool, true, false, List, []
 use Rattle.format.specs.declared.Format.{Format}
 use Rattle.format.specs.Given.{Given, gives, ◌then◌}
 use Rattle.number.specs.declared.Number.{Number}
-use Rattle.number.specs.declared.Ordering.{Ordering}
-use Rattle.number.specs.declared.Ordering.TheVariants.{Less, Equal, Greater}
+use Rattle.std.specs.declared.cmp.Ordering.{Ordering}
+use Rattle.std.specs.declared.cmp.Ordering.TheVariants.{Less, Equal, Greater}
 use Rattle.number.specs.Signs.{negated, unsigned}
 use Rattle.number.specs.Order.{compared}
 use Rattle.units.specs.Neighbours.{predecessor_of, successor_of}

@@ -1,21 +1,20 @@
 // The calls of the rows.
 ghost use Rattle.std.specs.Prelude.{◌≡◌, true, false};
-ghost use Rattle.number.specs.Answers.{number_given, order_given, pattern_given};
-ghost use Rattle.arithmetic.specs.Marked.{rounded_given};
-ghost use Rattle.arithmetic.specs.Quotients.{quotient_given, without_digits};
-ghost use Rattle.fast_two_sum.specs.Answers.{steps_given};
+ghost use Rattle.format.specs.Given.{given};
+ghost use Rattle.arithmetic.specs.Quotients.{without_digits};
 ghost use Rattle.vectors.specs.Calls.{whole, whole_order, pattern_number, mark_number, mark_whole, digits_whole, first_of_steps, answer_of};
 
 use arithmetic::operands::unmarked;
 use arithmetic::quotient::quotient;
-use arithmetic::{QuotientAnswer, Rounded, RoundedAnswer};
+use arithmetic::{CountedQuotient, Rounded};
 use binary32_arithmetic::operations;
 use decimal32::reading::read_decimal32;
 use decimal32::writing::write_decimal32;
-use fast_two_sum::StepsAnswer;
+use fast_two_sum::Steps;
 use fast_two_sum::sum::fast_two_sum;
-use format::{Format, Significand};
-use number::{Number, NumberAnswer, OrderAnswer, Ordering, PatternAnswer};
+use format::{Format, Refusal, Significand};
+use number::Number;
+use std::cmp::Ordering;
 use theory::Mark;
 
 // A whole number.
@@ -23,106 +22,79 @@ pub fn whole(negative: bool, n: Significand) -> Number
     ensures { result ≡ whole negative n }
 {
     Number {
-        negative: negative,
+        negative,
         significand: n,
         exponent: 0,
     }
 }
 
 // A quotient without the number of its digits.
-fn without_digits(answer: QuotientAnswer) -> RoundedAnswer
-    ensures { rounded_given result ≡ without_digits (quotient_given answer) }
+fn without_digits(answer: Result<CountedQuotient, Refusal>) -> Result<Rounded, Refusal>
+    ensures { given result ≡ without_digits (given answer) }
 {
-    match answer {
-        QuotientAnswer::Value(quotient) => {
-            let number = quotient.number;
-            let mark = quotient.mark;
-            RoundedAnswer::Value(Rounded {
-                number: number,
-                mark: mark,
-            })
-        }
-        QuotientAnswer::Refused(why) => RoundedAnswer::Refused(why),
-    }
+    let quotient = answer?;
+    Ok(Rounded {
+        number: quotient.number,
+        mark: quotient.mark,
+    })
 }
 
-// An order as -1, 0 or 1.
-fn order_number(answer: OrderAnswer) -> NumberAnswer
-    ensures { number_given result ≡ whole_order (order_given answer) }
+// An order as -1, 0 or 1: a number with a sign, which no conversion makes of an order.
+fn order_number(answer: Result<Ordering, Refusal>) -> Result<Number, Refusal>
+    ensures { given result ≡ whole_order (given answer) }
 {
-    match answer {
-        OrderAnswer::Ordered(order) => match order {
-            Ordering::Less => NumberAnswer::Value(whole(true, 1)),
-            Ordering::Equal => NumberAnswer::Value(whole(false, 0)),
-            Ordering::Greater => NumberAnswer::Value(whole(false, 1)),
-        },
-        OrderAnswer::Refused(why) => NumberAnswer::Refused(why),
+    match answer? {
+        Ordering::Less => Ok(whole(true, 1)),
+        Ordering::Equal => Ok(whole(false, 0)),
+        Ordering::Greater => Ok(whole(false, 1)),
     }
 }
 
 // A pattern as a whole number.
-fn pattern_number(pattern: PatternAnswer) -> NumberAnswer
-    ensures { number_given result ≡ pattern_number (pattern_given pattern) }
+fn pattern_number(pattern: Result<u32, Refusal>) -> Result<Number, Refusal>
+    ensures { given result ≡ pattern_number (given pattern) }
 {
-    match pattern {
-        PatternAnswer::Written(n) => NumberAnswer::Value(whole(false, n as Significand)),
-        PatternAnswer::Refused(why) => NumberAnswer::Refused(why),
-    }
+    Ok(whole(false, Significand::from(pattern?)))
 }
 
 // A mark as 0, 1 or 2: exact, low, high.
 fn mark_number(mark: Mark) -> Significand
     ensures { result ≡ mark_number mark }
 {
-    match mark {
-        Mark::Exact => 0,
-        Mark::Low => 1,
-        Mark::High => 2,
-    }
+    mark as Significand
 }
 
 // The mark of a result, as a whole number.
-fn mark_whole(answer: RoundedAnswer) -> NumberAnswer
-    ensures { number_given result ≡ mark_whole (rounded_given answer) }
+fn mark_whole(answer: Result<Rounded, Refusal>) -> Result<Number, Refusal>
+    ensures { given result ≡ mark_whole (given answer) }
 {
-    match answer {
-        RoundedAnswer::Value(rounded) => {
-            let mark = rounded.mark;
-            NumberAnswer::Value(whole(false, mark_number(mark)))
-        }
-        RoundedAnswer::Refused(why) => NumberAnswer::Refused(why),
-    }
+    Ok(whole(false, mark_number(answer?.mark)))
 }
 
 // The number of quotient digits, as a whole number.
-fn digits_number(answer: QuotientAnswer) -> NumberAnswer
-    ensures { number_given result ≡ digits_whole (quotient_given answer) }
+fn digits_number(answer: Result<CountedQuotient, Refusal>) -> Result<Number, Refusal>
+    ensures { given result ≡ digits_whole (given answer) }
 {
-    match answer {
-        QuotientAnswer::Value(quotient) => NumberAnswer::Value(whole(
-            false,
-            quotient.digits as Significand,
-        )),
-        QuotientAnswer::Refused(why) => NumberAnswer::Refused(why),
-    }
+    Ok(whole(false, Significand::from(answer?.digits)))
 }
 
 // x of three steps.
-fn first_step(steps: StepsAnswer) -> NumberAnswer
-    ensures { number_given result ≡ first_of_steps (steps_given steps) }
+fn first_step(steps: Result<Steps, Refusal>) -> Result<Number, Refusal>
+    ensures { given result ≡ first_of_steps (given steps) }
 {
-    match steps {
-        StepsAnswer::Triple(triple) => {
-            let x = triple.x;
-            NumberAnswer::Value(x)
-        }
-        StepsAnswer::Refused(why) => NumberAnswer::Refused(why),
-    }
+    Ok(steps?.x)
 }
 
-// What the operation with this number answers; the last is the three-step sum. Patterns and a denominator stand as significands.
-pub fn answer_of(operation: u32, format: Format, d: u32, a: Number, b: Number) -> NumberAnswer
-    ensures { number_given result ≡ answer_of operation format d a b }
+// What the operation with this number answers; the last is the three-step sum. Patterns and a denominator stand as significands. The
+// operations go by their numbers in the rows: an enum of them would need a table from number to name beside this one.
+pub fn answer_of(
+    operation: u32,
+    format: Format,
+    d: u32,
+    a: Number,
+    b: Number,
+) -> Result<Number, Refusal>
+    ensures { given result ≡ answer_of operation format d a b }
 {
     let m = (a.significand % 4294967296) as u32;
     let n = (b.significand % 4294967296) as u32;

@@ -1,9 +1,8 @@
 // The columns of a row: 16 hexadecimal digits each, a space after each but the last, which a line feed ends.
-ghost use Rattle.std.specs.Prelude.{◌≡◌, ◌<◌, ◌≤◌, length};
+ghost use Rattle.std.specs.Prelude.{◌≡◌, ◌+◌, ◌^◌, ◌<◌, ◌≤◌, length, unwrap_or};
 ghost use Rattle.vectors.specs.Columns.{columns, row_length, column_at, is_column, are_columns, word_at, integer_at};
 
 use lines::digits::digit_of;
-use std::num::wrapping_add_u64;
 
 // How many columns a row has, and how many bytes.
 const COLUMNS: usize = 16;
@@ -13,38 +12,75 @@ pub const ROW_LENGTH: usize = 17 * COLUMNS;
 // What a damaged column reads as: no column may hold it.
 const DAMAGED: u64 = 9223372036854775808;
 
-// A column may hold the numbers that are below its limit once its shift is added: the number of an operation, a sign, a significand or a
-// pattern (below S), or 32 bits, U numbers from 0 on or from -I on.
-const S: u64 = DAMAGED;
+// The numbers that a column may hold are those that are below a limit once a shift is added.
+#[derive(Clone, Copy)]
+struct Kind {
+    shift: u64,
+    limit: u64,
+}
 
-const U: u64 = 4294967296;
+const OPERATION: Kind = Kind {
+    shift: 0,
+    limit: 24,
+};
 
-const I: u64 = 2147483648;
+const SIGN: Kind = Kind { shift: 0, limit: 2 };
 
-const LIMITS: [u64; COLUMNS] = [24, U, U, U, U, U, 2, S, U, 2, S, U, U, 2, S, U];
+// A significand or a pattern.
+const SIGNIFICAND: Kind = Kind {
+    shift: 0,
+    limit: DAMAGED,
+};
 
-const SHIFTS: [u64; COLUMNS] = [0, 0, 0, I, I, 0, 0, 0, I, 0, 0, I, 0, 0, 0, I];
+const UNSIGNED: Kind = Kind {
+    shift: 0,
+    limit: 4294967296,
+};
 
-// The bytes after the columns.
-const ENDS: [u8; COLUMNS] = *b"               \n";
+const SIGNED: Kind = Kind {
+    shift: 2147483648,
+    limit: 4294967296,
+};
+
+// The operation and the format, the direction, two operands, the refusal and the answer.
+const KINDS: [Kind; COLUMNS] = [
+    OPERATION,
+    UNSIGNED,
+    UNSIGNED,
+    SIGNED,
+    SIGNED,
+    UNSIGNED,
+    SIGN,
+    SIGNIFICAND,
+    SIGNED,
+    SIGN,
+    SIGNIFICAND,
+    SIGNED,
+    UNSIGNED,
+    SIGN,
+    SIGNIFICAND,
+    SIGNED,
+];
+
+// The 16 digits at column c, where they are digits.
+fn digits_at(row: &[u8], c: usize) -> Option<u64>
+    requires { (row_length ≤ length row.now) × (c < columns) }
+    ensures { unwrap_or result (2 ^ 63) ≡ column_at row.now c }
+{
+    let start = 17 * c;
+    let mut value = 0;
+    for &b in &row[start..start + 16] {
+        value = value * 16 + u64::from(digit_of(b)?);
+    }
+    Some(value)
+}
 
 // The 16 digits at column c.
 pub fn column_at(row: &[u8], c: usize) -> u64
     requires { (row_length ≤ length row.now) × (c < columns) }
     ensures { result ≡ column_at row.now c }
 {
-    let start = 17 * c;
-    let mut value = 0;
-    let mut i = 0;
-    while i < 16 {
-        let digit = digit_of(row[start + i]) as u64;
-        if 16 <= digit {
-            return DAMAGED;
-        }
-        value = value * 16 + digit;
-        i += 1;
-    }
-    value
+    digits_at(row, c).unwrap_or(DAMAGED)
 }
 
 // Is column c digits of a number that it may hold, with the right byte after it?
@@ -52,8 +88,9 @@ fn is_column(row: &[u8], c: usize) -> bool
     requires { (row_length ≤ length row.now) × (c < columns) }
     ensures { result ≡ is_column row.now c }
 {
-    let end = row[17 * c + 16];
-    (wrapping_add_u64(column_at(row, c), SHIFTS[c]) < LIMITS[c]) & (end == ENDS[c])
+    let kind = KINDS[c];
+    let end = if c + 1 < COLUMNS { b' ' } else { b'\n' };
+    column_at(row, c).wrapping_add(kind.shift) < kind.limit && row[17 * c + 16] == end
 }
 
 // Is every column?
@@ -61,14 +98,7 @@ pub fn are_columns(row: &[u8]) -> bool
     requires { row_length ≤ length row.now }
     ensures { result ≡ are_columns row.now 0 columns }
 {
-    let mut c = 0;
-    while c < COLUMNS {
-        if !is_column(row, c) {
-            return false;
-        }
-        c += 1;
-    }
-    true
+    (0..COLUMNS).all(|c| is_column(row, c))
 }
 
 // The lower 32 bits of column c.
@@ -84,9 +114,5 @@ pub fn integer(row: &[u8], c: usize) -> i32
     requires { (row_length ≤ length row.now) × (c < columns) }
     ensures { result ≡ integer_at row.now c }
 {
-    let bits = word(row, c);
-    if bits < 2147483648 {
-        return bits as i32;
-    }
-    -1 - (4294967295 - bits) as i32
+    word(row, c).cast_signed()
 }

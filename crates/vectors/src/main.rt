@@ -36,7 +36,8 @@ fn main(rt: HostRuntime) {
     }
 }
 
-// Reads until the block is full, the input ends or cannot be read, and answers how many bytes it put at the start of the block.
+// Reads until the block is full, the input ends or cannot be read, and answers how many bytes it put at the start of the block. The loop
+// ends by what was read, and goes over no list.
 fn read_full(stdin: &mut impl Read, block: &mut [u8]) -> usize
     ensures { result ≤ length block.new }
 {

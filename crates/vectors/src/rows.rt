@@ -1,15 +1,13 @@
 // A row: does its call answer what it says? The columns are the operation, base, digits, emin, emax and direction; sign, significand
 // and exponent of the first operand and of the second; the answer's refusal, 0 for none, and its sign, significand and exponent.
 ghost use Rattle.std.specs.Prelude.{◌≡◌, ◌+◌, ◌<◌, ◌≤◌, length};
-ghost use Rattle.number.specs.Answers.{number_given};
+ghost use Rattle.format.specs.Given.{given};
 ghost use Rattle.vectors.specs.Columns.{columns, row_length};
 ghost use Rattle.vectors.specs.Rows.{number_at, row_answer, is_answer, agrees, rows_in, counted};
 
 use crate::{calls, columns};
-use format::Format;
-use format::refusals::refusal_number;
-use number::{Number, NumberAnswer};
-use std::num::wrapping_add_u64;
+use format::{Format, Refusal};
+use number::Number;
 
 // How many rows agree, and how many there are.
 #[derive(Clone, Copy)]
@@ -31,9 +29,9 @@ fn number_at(row: &[u8], c: usize) -> Number
 }
 
 // What the call of a row answers.
-fn answer_at(row: &[u8]) -> NumberAnswer
+fn answer_at(row: &[u8]) -> Result<Number, Refusal>
     requires { row_length ≤ length row.now }
-    ensures { number_given result ≡ row_answer row.now }
+    ensures { given result ≡ row_answer row.now }
 {
     let format = Format {
         base: columns::word(row, 1),
@@ -51,11 +49,7 @@ fn is_answer(row: &[u8], refusal: u32, x: Number) -> bool
     requires { row_length ≤ length row.now }
     ensures { result ≡ is_answer row.now refusal x }
 {
-    let y = number_at(row, 13);
-    (columns::word(row, 12) == refusal)
-        & (x.negative == y.negative)
-        & (x.significand == y.significand)
-        & (x.exponent == y.exponent)
+    columns::word(row, 12) == refusal && x == number_at(row, 13)
 }
 
 // Has the row its length and its columns, and does its call answer what it says? Bytes after the row do not count.
@@ -69,8 +63,8 @@ fn agrees(row: &[u8]) -> bool
         return false;
     }
     match answer_at(row) {
-        NumberAnswer::Value(x) => is_answer(row, 0, x),
-        NumberAnswer::Refused(why) => is_answer(row, refusal_number(why), calls::whole(false, 0)),
+        Ok(x) => is_answer(row, 0, x),
+        Err(why) => is_answer(row, u32::from(why), calls::whole(false, 0)),
     }
 }
 
@@ -80,13 +74,11 @@ pub fn count(before: Tally, input: &[u8]) -> Tally
     ensures { result ≡ counted before input.now (rows_in (length input.now)) }
 {
     let mut tally = before;
-    let mut start = 0;
-    while start < input.len() {
+    for row in input.chunks(columns::ROW_LENGTH) {
         tally = Tally {
-            agree: wrapping_add_u64(tally.agree, agrees(&input[start..]) as u64),
-            all: wrapping_add_u64(tally.all, 1),
+            agree: tally.agree.wrapping_add(u64::from(agrees(row))),
+            all: tally.all.wrapping_add(1),
         };
-        start += columns::ROW_LENGTH;
     }
     tally
 }

@@ -1,8 +1,10 @@
 -- Digits dropped one by one, until none stands below place 0 and the others are a significand.
-use Rattle.theory.proofs.Prelude.{ℕ, ◌≤◌, ◌<◌, ◌+◌, ◌^◌, ◌*◌, ◌-◌, ◌%◌, ◌/◌, suc, true, false, Bool, ◌&&◌, ⊎_elim, inl, inr, ◌⊎◌, ◌∙◌, ap, ap₂, ◌≡◌, ◌≢◌, sym, refl, ℕ_discrete, eqb, pow-zero, pow-succ', mul-one, mul-pos, mul-lt-mul_of_pos_right, mul-le-mul_right, mul-le-mul_left, pow-le-pow_left, div-add-mod', div-mul-le_self, div-lt_iff_lt-mul, mod-lt, arith}
+use Rattle.theory.proofs.Prelude.{ℕ, ◌≤◌, ◌<◌, ◌+◌, ◌^◌, ◌*◌, ◌-◌, ◌%◌, ◌/◌, suc, true, false, Bool, ◌&&◌, ⊎_elim, inl, inr, ◌⊎◌, ◌∙◌, ap, ap₂, ◌≡◌, ◌≢◌, sym, refl, ℕ_discrete, pow-zero, pow-succ', mul-one, mul-pos, mul-lt-mul_of_pos_right, mul-le-mul_right, mul-le-mul_left, pow-le-pow_left, div-add-mod', div-mul-le_self, div-lt_iff_lt-mul, mod-lt, arith}
 use native.Mathlib.Nat.{div-one, mod-one, div-le_self}
+use denote.Enum.Bare.{sameb}
+use Rattle.theory.specs.contracts.Location.{the_type}
 use Rattle.theory.proofs.Tests.{never}
-use Rattle.rounding.proofs.Prelude.{pow-add, pow_pos, pow_mono, pow_le_cancel, Scale, ScaledWithin, Digits, Location, Exact, Below, located, ranked, located_exact, located_below, located_half, located_above, cut_of, cut_is, positional, power_at, power_next, power_one, count_le, bound_pos, twice_steps, twice_rest}
+use Rattle.rounding.proofs.Prelude.{pow-add, pow_pos, pow_mono, pow_le_cancel, Scale, ScaledWithin, Digits, Location, Exact, Below, located, located_exact, located_below, located_half, located_above, cut_of, cut_is, positional, power_at, power_next, power_one, count_le, bound_pos, twice_steps, twice_rest}
 use Rattle.rounding.proofs.Locations.{Rest, below, half, above, rest}
 use Rattle.rounding.proofs.Places.{Placed}
 use Rattle.rounding.specs.declared.Cut.{Cut}
@@ -11,23 +13,23 @@ use Rattle.wide.proofs.Sizes.{bits_size}
 use Rattle.wide.proofs.Finishes.{finishes}
 
 -- ---- what a location says of its rest
-rest_some : (r m : ℕ) → r ≢ 0 → eqb (ranked (located r m)) 0 ≡ false
-rest_some r m h = by (rest r m)
+pub no_rest : (r m : ℕ) {l : Location} → l ≡ located r m → true ≡ sameb the_type l Exact → r ≡ 0
+no_rest r m {l} e h = by (ℕ_discrete r 0)
   where
-    by : Rest r m → eqb (ranked (located r m)) 0 ≡ false
-    by (below l) = ap (λ (t : Location). eqb (ranked t) 0) (located_below r m h l)
-    by (half l) = ap (λ (t : Location). eqb (ranked t) 0) (located_half r m h l)
-    by (above l) = ap (λ (t : Location). eqb (ranked t) 0) (located_above r m l)
+    some : r ≢ 0 → sameb the_type l Exact ≡ false
+    some n = by (rest r m)
+      where
+        by : Rest r m → sameb the_type l Exact ≡ false
+        by (below k) = rw (e, located_below r m n k) refl
+        by (half k) = rw (e, located_half r m n k) refl
+        by (above k) = rw (e, located_above r m k) refl
 
-pub no_rest : (r m : ℕ) {l : Location} → l ≡ located r m → eqb (ranked l) 0 ≡ true → r ≡ 0
-no_rest r m e h = by (ℕ_discrete r 0)
-  where
     by : Dec (r ≡ 0) → r ≡ 0
     by (yes z) = z
-    by (no n) = absurd (never (sym h ∙ ap (λ (t : Location). eqb (ranked t) 0) e ∙ rest_some r m n))
+    by (no n) = absurd (never (h ∙ some n))
 
-pub some_rest : (r m : ℕ) {l : Location} → l ≡ located r m → eqb (ranked l) 0 ≡ false → r ≢ 0
-some_rest r m e h z = never (sym (ap (λ (t : Location). eqb (ranked t) 0) (e ∙ located_exact r m z)) ∙ h)
+pub some_rest : (r m : ℕ) {l : Location} → l ≡ located r m → false ≡ sameb the_type l Exact → r ≢ 0
+some_rest r m {l} e h z = never (sym (h ∙ ap (λ (t : Location). sameb the_type t Exact) (e ∙ located_exact r m z)))
 
 -- a word has at most 64 bits
 pub bits_most : {n bits : ℕ} → Digits 2 n bits → n < 2 ^ 64 → bits ≤ 64

@@ -1,18 +1,10 @@
 -- The digits of a long division: the divisor above n, the digits by the definition, where they end, and how many there are.
 use Rattle.theory.proofs.Prelude.{ℕ, ◌≤◌, ◌<◌, ◌+◌, ◌^◌, ◌*◌, ◌-◌, suc, zero, inl, inr, ◌⊎◌, ◌≢◌, ◌%◌, ◌/◌, ◌∙◌, ap, ◌≡◌, sym, refl, mul-le-mul_right, mul-le-mul_left, pow-zero, mul-lt-mul_of_pos_right, pow-succ', lt_of_not-le, eq-or-lt_of_le, le_antisymm, subst, div-add-mod', div-lt_iff_lt-mul, mod-lt, pow-le-pow_left, arith}
-use Rattle.std.proofs.Math.Arith.{digits_div, digits_mod}
 use Rattle.rounding.proofs.Prelude.{pow-add, pow_mono, power_next, Scale, Scaled, least_bound}
 use Rattle.wide.specs.declared.long_division.Division.{Division}
 use Rattle.wide.specs.Division.{remains, digit, digits, Taken, Ended, after, NoEnd, Divided, all_digits, lowest_place, no_rest}
 
--- a quotient and what remains, from what they make
-pub quotient_made : (q r w : ℕ) {n : ℕ} → q * w + r ≡ n → r < w → (q ≡ n / w) × (r ≡ n % w)
-quotient_made q r w e l = (sym (digits_div q l) ∙ ap (λ (x : ℕ). x / w) e, sym (digits_mod q l) ∙ ap (λ (x : ℕ). x % w) e)
-
 -- ---- the divisor above n
-pub align_first : (β d : ℕ) → d ≡ d * β ^ 0
-align_first β d = rw pow-zero (omega arith)
-
 pub align_next : {w : ℕ} (β d t : ℕ) → w ≡ d * β ^ t → w * β ≡ d * β ^ (t + 1)
 align_next β d t e = rw (← power_next β t) (omega (arith, ap (λ (x : ℕ). x * β) e))
 

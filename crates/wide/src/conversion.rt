@@ -1,17 +1,17 @@
 // Any whole number of one word times a power of the base, rounded: the digits below place 0, and those that the format has no room for,
 // are dropped one by one, in base 2 all at once.
-ghost use Rattle.std.specs.Prelude.{◌≡◌, ◌⊎◌, eqb, ℕ, ◌+◌, ◌*◌, ◌<◌, ◌≤◌, ◌^◌};
+ghost use Rattle.std.specs.Prelude.{◌≡◌, ◌⊎◌, ℕ, ◌+◌, ◌*◌, ◌<◌, ◌≤◌, ◌^◌};
 ghost use Rattle.format.specs.Formats.{Scaled};
 ghost use Rattle.rounding.specs.Cut.{cut_of, Rounds};
-ghost use Rattle.rounding.specs.Location.{located, ranked};
+ghost use Rattle.rounding.specs.Location.{located};
 ghost use Rattle.wide.specs.Conversion.{Dropping};
 
 use format::{Scale, Significand};
 use rounding::choice::{finish, locate};
 use rounding::cutting::exact_cut;
 use rounding::digits::bit_count;
-use rounding::{Cut, Rounding, Wide};
-use theory::{Direction, Location, Mark};
+use rounding::{Cut, Rounding};
+use theory::{Direction, Location};
 
 // What is left when `count` digits are dropped, and the location of these.
 #[derive(Clone, Copy)]
@@ -21,24 +21,13 @@ pub struct Dropped {
     pub count: u32,
 }
 
-// Is nothing cut off?
-fn is_exact(location: Location) -> bool
-    ensures { result ≡ eqb (ranked location) 0 }
-{
-    match location {
-        Location::Exact => true,
-        Location::Below => false,
-        Location::Half => false,
-        Location::Above => false,
-    }
-}
-
-// The location of digit * m + r in m * base, where `lower` is that of r in m: a digit before what is cut off already.
+// The location of digit * m + r in m * base, where `lower` is that of r in m: a digit before what is cut off already. Kept beside
+// `locate_twice` of `rounding`, which has what lies below as a number: the edit half_and_a_little_is_below_half is of this test.
 fn locate_digit(digit: u64, base: u64, lower: Location) -> Location
     requires { (digit < base) × (base ≤ 256) }
     ensures { (r m : ℕ) → r < m → lower ≡ located r m → result ≡ located (digit * m + r) (m * base) }
 {
-    if is_exact(lower) {
+    if lower == Location::Exact {
         return locate(digit, base);
     }
     let twice = 2 * digit;
@@ -58,11 +47,7 @@ fn drop_bits(scale: Scale, n: u64, down: u32) -> Dropped
     ensures { Dropping scale.base scale.bound n down result.steps result.location result.count }
 {
     let bits = bit_count(n);
-    let below = if scale.digits + down < bits {
-        bits - scale.digits
-    } else {
-        down
-    };
+    let below = bits.saturating_sub(scale.digits).max(down);
     if (scale.base != 2) | (below == 0) {
         return Dropped {
             steps: n,
@@ -76,11 +61,12 @@ fn drop_bits(scale: Scale, n: u64, down: u32) -> Dropped
     Dropped {
         steps: n >> count,
         location: rest,
-        count: count,
+        count,
     }
 }
 
-// The cut of n * base ^ up / base ^ down, where n is below place 0 in part or has more digits than the format.
+// The cut of n * base ^ up / base ^ down, where n is below place 0 in part or has more digits than the format. Kept as a `while`: it goes over
+// no list, and two tests end it, of which one is on the steps that it makes.
 fn drop_digits(scale: Scale, n: u64, up: u32, down: u32) -> Cut
     requires { Scaled scale × (1 ≤ n) × (up < 2 ^ 28) × (down ≤ 64) × ((up ≡ 0) ⊎ ((down ≡ 0) × (scale.bound ≤ n))) }
     ensures { result ≡ cut_of scale.base scale.digits (n * scale.base ^ up) (scale.base ^ down) }
@@ -97,9 +83,9 @@ fn drop_digits(scale: Scale, n: u64, up: u32, down: u32) -> Cut
         count = count + 1;
     }
     Cut {
-        steps: steps,
+        steps,
         place: up + count - down,
-        location: location,
+        location,
     }
 }
 
@@ -134,14 +120,7 @@ pub fn conversion(
     ensures { Rounds scale.base scale.digits direction negative (n * scale.base ^ up) (scale.base ^ down) result }
 {
     if n == 0 {
-        return Rounding {
-            wide: Wide {
-                negative: negative,
-                significand: 0,
-                place: 0,
-            },
-            mark: Mark::Exact,
-        };
+        return Rounding::zero(negative);
     }
     let exact = conversion_cut(scale, n, up, down);
     finish(scale, direction, negative, exact)

@@ -26,7 +26,8 @@ pub struct Division {
     pub place: u32,
 }
 
-// The least divisor d * base ^ place above n: the first digit of n / d stands at the place below, or further below where n < d.
+// The least divisor d * base ^ place above n: the first digit of n / d stands at the place below, or further below where n < d. Kept as a
+// `while`: it goes over no list, and yields both numbers that each turn changes.
 fn align(base: u32, n: u32, d: u32) -> Aligned
     requires { (2 ≤ base) × (base ≤ 256) × (1 ≤ d) }
     ensures { Start base n d result.divisor result.place }
@@ -66,43 +67,35 @@ fn next_digit(base: u32, n: u64, divisor: u64) -> WordQuotient
 }
 
 // The digits of n / divisor, of which `places` stand at or above the lowest place, one each turn. The loop ends as soon as all digits of
-// the format stand, the digit at the lowest place has been taken, or nothing remains.
+// the format stand, the digit at the lowest place has been taken, or nothing remains: the form that document 01 names, a loop over digits that
+// yields by `break` at its three ends.
 fn take_digits(scale: Scale, n: u32, divisor: u64, places: u32) -> Division
     requires { Scaled scale × (1 ≤ n) × (n < divisor) × (divisor < 2 ^ 32 * scale.base) }
     ensures { Divided scale n divisor places result }
 {
     let base = scale.base as u64;
-    let mut quotient: Significand = 0;
-    let mut remainder = n as u64;
-    let mut place = places;
-    let division = loop {
-        if scale.least <= quotient {
-            break Division {
-                quotient,
-                remainder,
-                place,
-            };
-        }
-        if place == 0 {
-            break Division {
-                quotient,
-                remainder,
-                place,
-            };
-        }
-        if remainder == 0 {
-            break Division {
-                quotient,
-                remainder,
-                place,
-            };
-        }
-        let next = next_digit(scale.base, remainder * base, divisor);
-        quotient = quotient * base + next.quotient;
-        remainder = next.remainder;
-        place = place - 1;
+    let mut taken = Division {
+        quotient: 0,
+        remainder: n as u64,
+        place: places,
     };
-    division
+    loop {
+        if scale.least <= taken.quotient {
+            break taken;
+        }
+        if taken.place == 0 {
+            break taken;
+        }
+        if taken.remainder == 0 {
+            break taken;
+        }
+        let next = next_digit(scale.base, taken.remainder * base, divisor);
+        taken = Division {
+            quotient: taken.quotient * base + next.quotient,
+            remainder: next.remainder,
+            place: taken.place - 1,
+        };
+    }
 }
 
 // The cut of every value that was so divided. Where nothing remains, the digits that are missing are zeros.

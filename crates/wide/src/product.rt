@@ -8,8 +8,8 @@ use format::{Scale, Significand};
 use rounding::choice::finish;
 use rounding::cutting::{cut_long, drop_beyond};
 use rounding::digits::normalise;
-use rounding::{Cut, Rounding, Wide};
-use theory::{Direction, Mark};
+use rounding::{Cut, Rounding};
+use theory::Direction;
 
 // The cut of a * b * base ^ up / base ^ down, where a and b have all their digits: mostly all digits of the result stand at place 0 or above.
 fn product_cut(scale: Scale, a: Significand, b: Significand, up: u32, down: u32) -> Cut
@@ -41,15 +41,9 @@ pub fn product(
     let mut low = down;
     if (a < scale.least) | (b < scale.least) {
         if (a == 0) | (b == 0) {
-            return Rounding {
-                wide: Wide {
-                    negative: negative,
-                    significand: 0,
-                    place: 0,
-                },
-                mark: Mark::Exact,
-            };
+            return Rounding::zero(negative);
         }
+        // Made anew: `scale` itself, handed on, is copied in the frequent way too, and a product takes 269 instructions in place of 266 in base 2.
         let made = Scale {
             base: scale.base,
             digits: scale.digits,

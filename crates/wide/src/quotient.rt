@@ -10,19 +10,12 @@ use format::powers::trailing_zeros;
 use format::{Scale, Significand};
 use rounding::choice::{finish, locate};
 use rounding::digits::{normalise, power};
-use rounding::{Cut, Rounding, Wide};
-use theory::{Direction, Location, Mark};
+use rounding::{Cut, Rounding};
+use theory::{Direction, Location};
 use two_words::TwoWords;
 use two_words::orders::less;
 use two_words::product::product;
 use two_words::quotient::divide;
-
-// The cut of a quotient, and how many of its digits were worked out.
-#[derive(Clone, Copy)]
-pub struct CountedCut {
-    pub cut: Cut,
-    pub digits: u32,
-}
 
 // A rounded quotient, and how many of its digits were worked out.
 #[derive(Clone, Copy)]
@@ -31,8 +24,8 @@ pub struct CountedRounding {
     pub digits: u32,
 }
 
-// a * unit divided by b, where the unit brings `after` digits behind the first before the point. Where nothing remains, the zeros that
-// the quotient ends in were not worked out.
+// The cut of a * unit divided by b, where the unit brings `after` digits behind the first before the point, and how many digits were worked
+// out: where nothing remains, not the zeros that the quotient ends in.
 fn divide_shifted(
     scale: Scale,
     a: Significand,
@@ -40,9 +33,9 @@ fn divide_shifted(
     unit: Significand,
     after: u32,
     place: u32,
-) -> CountedCut
+) -> (Cut, u32)
     requires { Scaled scale × Leading scale a × Leading scale b × (a * unit < b * scale.bound) × (unit ≡ scale.base ^ after) × (after < 64) }
-    ensures { CutShifted scale.base a b after place result.cut result.digits }
+    ensures { CutShifted scale.base a b after place result.0 result.1 }
 {
     let division = divide(product(a, unit), b);
     let steps = division.quotient;
@@ -51,14 +44,12 @@ fn divide_shifted(
     if division.remainder == 0 {
         digits = after + 1 - trailing_zeros(scale.base, steps);
     }
-    CountedCut {
-        cut: Cut {
-            steps: steps,
-            place: place,
-            location: location,
-        },
-        digits: digits,
-    }
+    let cut = Cut {
+        steps,
+        place,
+        location,
+    };
+    (cut, digits)
 }
 
 // Where a lies in b * base ^ e.
@@ -84,39 +75,33 @@ fn locate_under(scale: Scale, a: Significand, b: Significand, e: u32) -> Locatio
     }
 }
 
-// The cut of a * base ^ high / (b * base ^ low), where a and b have all their digits. The first digit of a / b stands `high` less `low`
+// The cut of a * base ^ high / (b * base ^ low) and its digits, where a and b have all theirs. The first digit of a / b stands `high` less `low`
 // places above the lowest.
-fn quotient_cut(scale: Scale, a: Significand, b: Significand, high: u32, low: u32) -> CountedCut
+fn quotient_cut(scale: Scale, a: Significand, b: Significand, high: u32, low: u32) -> (Cut, u32)
     requires { Scaled scale × Leading scale a × Leading scale b × (high < 2 ^ 30) × (low < 2 ^ 30) }
-    ensures { (result.cut ≡ cut_of scale.base scale.digits (a * scale.base ^ high) (b * scale.base ^ low))
-        × (result.digits ≡ digits_from scale.base scale.digits a b high low) }
+    ensures { (result.0 ≡ cut_of scale.base scale.digits (a * scale.base ^ high) (b * scale.base ^ low))
+        × (result.1 ≡ digits_from scale.base scale.digits a b high low) }
 {
+    if high < low {
+        let cut = Cut {
+            steps: 0,
+            place: 0,
+            location: locate_under(scale, a, b, low - high),
+        };
+        return (cut, 0);
+    }
     let mut most = scale.digits;
     let mut unit = scale.bound;
     if b <= a {
         most = most - 1;
         unit = scale.least;
     }
-    if high < low {
-        let location = locate_under(scale, a, b, low - high);
-        return CountedCut {
-            cut: Cut {
-                steps: 0,
-                place: 0,
-                location: location,
-            },
-            digits: 0,
-        };
-    }
-    let mut after = most;
-    let mut place: u32 = 0;
-    if low + most <= high {
-        place = high - (low + most);
-    } else {
-        after = high - low;
+    let reach = high - low;
+    let after = most.min(reach);
+    if after < most {
         unit = power(scale, after);
     }
-    divide_shifted(scale, a, b, unit, after, place)
+    divide_shifted(scale, a, b, unit, after, reach - after)
 }
 
 // m * base ^ up / (n * base ^ down), with the sign `negative`, rounded.
@@ -134,15 +119,8 @@ pub fn quotient(
         × (result.digits ≡ digits_of scale.base scale.digits m n up down) }
 {
     if m == 0 {
+        let rounding = Rounding::zero(negative);
         let digits: u32 = 0;
-        let rounding = Rounding {
-            wide: Wide {
-                negative: negative,
-                significand: 0,
-                place: 0,
-            },
-            mark: Mark::Exact,
-        };
         return CountedRounding { rounding, digits };
     }
     let mut a = m;
@@ -150,6 +128,7 @@ pub fn quotient(
     let mut low = down;
     let mut high = up;
     if (m < scale.least) | (n < scale.least) {
+        // Made anew: `scale` itself, handed on, is copied in the frequent way too, and a quotient takes 297 instructions in place of 291 in base 2.
         let made = Scale {
             base: scale.base,
             digits: scale.digits,
@@ -163,10 +142,7 @@ pub fn quotient(
         low = down + first.shift;
         high = up + second.shift;
     }
-    let counted = quotient_cut(scale, a, b, high, low);
-    let exact = counted.cut;
-    CountedRounding {
-        rounding: finish(scale, direction, negative, exact),
-        digits: counted.digits,
-    }
+    let (exact, digits) = quotient_cut(scale, a, b, high, low);
+    let rounding = finish(scale, direction, negative, exact);
+    CountedRounding { rounding, digits }
 }

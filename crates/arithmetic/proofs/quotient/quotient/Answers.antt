@@ -1,37 +1,42 @@
 -- `arithmetic::quotient::quotient` meets its contract.
-use Rattle.theory.proofs.Prelude.{[], ◌∷◌, ◌∙◌}
-use Rattle.number.proofs.CheckLaws.{first_direction, operands}
+use Rattle.theory.proofs.Prelude.{◌∙◌}
+use Rattle.number.proofs.CheckLaws.{passed, operands, stops, no_format, not_a_direction, one_direction, second_fails, both_read, operation_answers}
 use Rattle.arithmetic.specs.Quotients.{counted_quotient, quotient_answer}
 use Rattle.arithmetic.proofs.Prelude.{Direction, Format}
-use Rattle.arithmetic.proofs.Entries.{Entered, directed, numbered, call_enters, call_answers, call_ends}
 use Rattle.arithmetic.proofs.quotient.quotient.Goals as goal
 
-pub direction_of-requires : goal.direction_of-requires
+pub returns-in_err-prepared : goal.returns-in_err-prepared
 unfolding quotient_answer
-direction_of-requires c =
-    let checks : let s = c.args in
-    Entered s.format s.direction (s.a ∷ s.b ∷ []) c.with_number-2.result = numbered (numbered (directed c.prepare.ensures c.with_direction-directed.ensures) c.with_number.ensures) c.with_number-2.ensures in
-    first_direction (call_enters checks c.in-Ready.is)
+returns-in_err-prepared c = stops _ _ _ _ _ (no_format _ _ _ c.prepare.ensures c.in_err-prepared.was) c.from_residual.ensures.1
+
+pub returns-in_err-direction : goal.returns-in_err-direction
+unfolding quotient_answer
+returns-in_err-direction c =
+    stops _ _ _ _ _ (not_a_direction _ _ _ _ c.prepare.ensures c.in_ok-prepared.was c.try_from.ensures c.in_err-direction.was) c.from_residual-in_err-direction.ensures.1
+
+pub returns-in_err-with_number : goal.returns-in_err-with_number
+unfolding quotient_answer
+returns-in_err-with_number c =
+    let read = one_direction _ _ c.prepare.ensures c.in_ok-prepared.was c.try_from.ensures c.in_ok-direction.was in
+    stops _ _ _ _ _ (second_fails _ _ c.args.a c.args.b read c.with_number.ensures c.in_err-with_number.was) c.from_residual-in_err-with_number.ensures.1
+
+pub returns-in_err-prepared-2 : goal.returns-in_err-prepared-2
+unfolding quotient_answer
+returns-in_err-prepared-2 c =
+    let read = one_direction _ _ c.prepare.ensures c.in_ok-prepared.was c.try_from.ensures c.in_ok-direction.was in
+    stops _ _ _ _ _ (both_read _ _ c.args.a c.args.b read c.with_number.ensures c.in_ok-with_number.was c.with_number-2.ensures ∙ c.in_err-prepared-2.was)
+    c.from_residual-in_err-prepared-2.ensures.1
 
 pub counted_quotient-requires : goal.counted_quotient-requires
-unfolding quotient_answer
 counted_quotient-requires c =
-    let checks : let s = c.args in
-    Entered s.format s.direction (s.a ∷ s.b ∷ []) c.with_number-2.result = numbered (numbered (directed c.prepare.ensures c.with_direction-directed.ensures) c.with_number.ensures) c.with_number-2.ensures in
-    operands (call_enters checks c.in-Ready.is)
+    let read = one_direction _ _ c.prepare.ensures c.in_ok-prepared.was c.try_from.ensures c.in_ok-direction.was in
+    operands (passed _ _ _ (both_read _ _ c.args.a c.args.b read c.with_number.ensures c.in_ok-with_number.was c.with_number-2.ensures ∙ c.in_ok-prepared-2.was))
 
-pub returns-in-Refused : goal.returns-in-Refused
+pub returns : goal.returns
 unfolding quotient_answer
-returns-in-Refused c =
-    let checks : let s = c.args in
-    Entered s.format s.direction (s.a ∷ s.b ∷ []) c.with_number-2.result = numbered (numbered (directed c.prepare.ensures c.with_direction-directed.ensures) c.with_number.ensures) c.with_number-2.ensures in
-    call_ends checks c.in-Refused.is _
-
-pub returns-in-Ready : goal.returns-in-Ready
-unfolding quotient_answer
-returns-in-Ready c =
-    let checks : let s = c.args in
-    Entered s.format s.direction (s.a ∷ s.b ∷ []) c.with_number-2.result = numbered (numbered (directed c.prepare.ensures c.with_direction-directed.ensures) c.with_number.ensures) c.with_number-2.ensures in
+returns c =
     let s = c.args in
+    let read = one_direction _ _ c.prepare.ensures c.in_ok-prepared.was c.try_from.ensures c.in_ok-direction.was in
     c.counted_quotient.ensures
-    ∙ call_answers checks c.in-Ready.is (λ (f : Format) (d : Direction). counted_quotient f d s.a s.b) c.direction_of.ensures
+    ∙ operation_answers _ _ _ (λ (f : Format) (d : Direction). counted_quotient f d s.a s.b)
+    (both_read _ _ s.a s.b read c.with_number.ensures c.in_ok-with_number.was c.with_number-2.ensures ∙ c.in_ok-prepared-2.was) c.try_from.ensures c.in_ok-direction.was

@@ -1,24 +1,35 @@
--- `binary32::finite::first_not_finite` meets its contract: every pattern that was passed is finite.
-use Rattle.theory.proofs.Prelude.{◌∙◌, ◌≡◌, sym, arith, length, rules, ap, not}
-use borrow.Author.Count.{below_more}
-use Rattle.theory.proofs.Lists.{first_is, first_none}
+-- `binary32::finite::first_not_finite` meets its contract: std's first position is that of theory.specs.Lists.
+use Rattle.std.proofs.Common.{Some, None, rules, tests}
+use Rattle.std.specs.List.{position_or_len}
+use Rattle.std.specs.Option.{unwrap_or}
+use Rattle.std.proofs.lemmas.Iterator.{YieldsList-from_slice}
+use Rattle.std.proofs.lemmas.Iterator.Search.{position_from_yields_List}
+use Rattle.std.proofs.lemmas.List.Recursion.{is_position_or_len}
+use Rattle.theory.proofs.Prelude.{ℕ, ◌≤◌, Bool, List, ◌∙◌, ap, ◌≡◌, sym, refl, cond, arith, dec_le, ltb, length, lt-ltb, le-ltb}
+use Rattle.theory.specs.Lists.{first_where}
+use Rattle.theory.proofs.Lists.{first_most}
 use Rattle.binary32.specs.Patterns.{not_finite}
-use Rattle.binary32.proofs.PatternValues.{finite_passes, finite_stops}
 use Rattle.binary32.proofs.finite.first_not_finite.Goals as goal
 
-pub returns-then-not-is_finite : goal.returns-then-not-is_finite
-returns-then-not-is_finite c =
-    let l = c.args.patterns.now in
-    sym (first_is not_finite 0 l c.loop-i.i (omega arith) (finite_stops _ c.is_finite.ensures (ap not c.if-not-is_finite.true)) c.loop-i.invariant.1)
+first_position_is : (test : ℕ → Bool) (l : List ℕ) → first_where test l ≡ position_or_len test l
+unfolding first_where
+first_position_is test l = is_position_or_len (first_where test) test refl (λ x xs. ap (cond (test x) 0) (omega arith)) l
 
-pub loop-i-preserved : goal.loop-i-preserved
-loop-i-preserved c = (search rules, below_more _ _ c.loop-i.invariant.1 (finite_passes _ c.is_finite.ensures (ap not c.if-not-is_finite.false)))
+-- what is found, or the length
+found_or_length : (n length : ℕ) → n ≤ length → unwrap_or (cond (ltb n length) (Some n) None) length ≡ n
+found_or_length n length h = by (dec_le length n)
+  where
+    by : Dec (length ≤ n) → unwrap_or (cond (ltb n length) (Some n) None) length ≡ n
+    by (yes m) = rw (le-ltb n length m) (omega arith)
+    by (no m) = rw (lt-ltb n length (omega arith))
 
 pub returns : goal.returns
+unfolding not_finite
 returns c =
     let l = c.args.patterns.now in
-    let end : c.loop-i.i ≡ length l = omega arith in
-    end ∙ sym (first_none not_finite 0 l (λ k h. c.loop-i.invariant.1 k (omega arith)))
-
-pub loop-i-init : goal.loop-i-init
-loop-i-init c = (search rules, λ k l. absurd (omega arith))
+    let found : c.position.result ≡ cond (ltb (position_or_len not_finite l) (length l)) (Some (position_or_len not_finite l)) None = position_from_yields_List not_finite _ _ c.position.result c.position.ensures.ran (YieldsList-from_slice l cc) (λ x b q k. search (rules, tests)) in
+    let same = first_position_is not_finite l in
+    c.unwrap_or.ensures
+    ∙ ap (λ o. unwrap_or o (length l)) found
+    ∙ found_or_length (position_or_len not_finite l) (length l) (omega (arith, same, first_most not_finite 0 l))
+    ∙ sym same

@@ -8,8 +8,5 @@ use Rattle.binary32.proofs.patterns.read_pattern.Goals as goal
 pub returns-then-not-is_finite : goal.returns-then-not-is_finite
 returns-then-not-is_finite c = sym (read_refused _ (endless_field _ (sym c.is_finite.ensures ∙ c.if-not-is_finite.true)))
 
-pub read_finite-requires : goal.read_finite-requires
-read_finite-requires c = sym c.is_finite.ensures ∙ c.if-not-is_finite.false
-
 pub returns : goal.returns
 returns c = ap gives c.read_finite.ensures ∙ sym (read_made _ (sym c.is_finite.ensures ∙ c.if-not-is_finite.false))

@@ -1,40 +1,42 @@
 -- `binary32_arithmetic::operations::read_call` meets its contract: the checks in their order.
-use Rattle.theory.proofs.Prelude.{true, ◌≡◌, sym, ◌∙◌}
+use Rattle.std.specs.Prelude.{Ok, Err}
+use Rattle.theory.proofs.Prelude.{ℕ, true, false, ◌≡◌, sym, ◌∙◌}
 use Rattle.theory.specs.Tests.{◌and◌}
-use Rattle.theory.proofs.Tests.{and_left, and_right}
-use Rattle.format.specs.Directions.{is_direction}
-use Rattle.binary32.specs.Patterns.{finite}
+use Rattle.theory.specs.declared.Direction.{Direction}
+use Rattle.theory.specs.Directions.{direction_read}
+use Rattle.theory.proofs.Directions.{direction_taken, no_direction_taken}
+use Rattle.theory.proofs.Results.{err_returned}
+use Rattle.theory.proofs.Tests.{and_left, and_right, unless_passed, unless_failed}
+use Rattle.format.specs.declared.Refusal.TheVariants.{NotFinite}
+use Rattle.number.specs.declared.Number.{Number}
+use Rattle.binary32.specs.Patterns.{finite, number_read}
 use Rattle.binary32_arithmetic.specs.Calls.{call_read}
 use Rattle.binary32_arithmetic.proofs.operations.read_call.Goals as goal
 
-pub returns-then-not-is_direction : goal.returns-then-not-is_direction
+module _ (d a b : ℕ) {t : Direction} (h : direction_read d ≡ Ok t) where
+  not_finite : finite a and finite b ≡ false → Err NotFinite ≡ call_read d a b
+  unfolding call_read
+  not_finite k = sym (unless_passed _ _ (direction_taken d h).0 ∙ unless_failed _ _ k)
+
+  made : finite a and finite b ≡ true → {x y : Number} → x ≡ number_read a → y ≡ number_read b → Ok (t, x, y) ≡ call_read d a b
+  unfolding call_read
+  made k f g = let e = (direction_taken d h).1 in rw (e, f, g) (sym (unless_passed _ _ (direction_taken d h).0 ∙ unless_passed _ _ k))
+
+pub returns-in_err-direction : goal.returns-in_err-direction
 unfolding call_read
-returns-then-not-is_direction c = rw (sym c.is_direction.ensures ∙ c.if-not-is_direction.true)
+returns-in_err-direction c =
+    err_returned _ c.from_residual.ensures.1 ∙ sym (unless_failed _ _ (no_direction_taken _ (sym c.try_from.ensures ∙ c.in_err-direction.was)))
 
 pub returns-then-not-are_finite : goal.returns-then-not-are_finite
-unfolding call_read
 returns-then-not-are_finite c =
-    let directed : is_direction c.args.direction ≡ true = sym c.is_direction.ensures ∙ c.if-not-is_direction.false in
-    rw (directed, sym c.are_finite.ensures ∙ c.if-not-are_finite.true)
+    not_finite _ _ _ (sym c.try_from.ensures ∙ c.in_ok-direction.was) (sym c.are_finite.ensures ∙ c.if-not-are_finite.true)
 
 pub returns : goal.returns
-unfolding call_read
 returns c =
-    let directed : is_direction c.args.direction ≡ true = sym c.is_direction.ensures ∙ c.if-not-is_direction.false in
-    let both : let s = c.args in finite s.a and finite s.b ≡ true = sym c.are_finite.ensures ∙ c.if-not-are_finite.false in
-    rw (c.read_finite-2.ensures, c.read_finite.ensures, c.direction_of.ensures, directed, both)
-
-pub direction_of-requires : goal.direction_of-requires
-direction_of-requires c =
-    let directed : is_direction c.args.direction ≡ true = sym c.is_direction.ensures ∙ c.if-not-is_direction.false in
-    directed
+    made _ _ _ (sym c.try_from.ensures ∙ c.in_ok-direction.was) (sym c.are_finite.ensures ∙ c.if-not-are_finite.false) c.read_finite.ensures c.read_finite-2.ensures
 
 pub read_finite-requires : goal.read_finite-requires
-read_finite-requires c =
-    let both : let s = c.args in finite s.a and finite s.b ≡ true = sym c.are_finite.ensures ∙ c.if-not-are_finite.false in
-    and_left _ _ both
+read_finite-requires c = and_left _ _ (sym c.are_finite.ensures ∙ c.if-not-are_finite.false)
 
 pub read_finite-requires-2 : goal.read_finite-requires-2
-read_finite-requires-2 c =
-    let both : let s = c.args in finite s.a and finite s.b ≡ true = sym c.are_finite.ensures ∙ c.if-not-are_finite.false in
-    and_right _ _ both
+read_finite-requires-2 c = and_right _ _ (sym c.are_finite.ensures ∙ c.if-not-are_finite.false)

@@ -1,12 +1,20 @@
 -- `binary32_arithmetic::slices::sum_slices` meets its contract.
+use Rattle.std.specs.Prelude.{Result, Ok, Err, IsErrAnd, MatchResult}
 use Rattle.theory.proofs.Prelude.{ℕ, true, false, List, ◌∙◌, ap, ◌≡◌, sym, refl, eqb, length, ne_eqb, eq-eqb}
 use Rattle.theory.specs.Tests.{◌and◌}
 use Rattle.theory.specs.declared.Direction.{Direction}
+use Rattle.theory.specs.declared.NoDirection.{NoDirection}
+use Rattle.theory.specs.Directions.{direction_read}
+use Rattle.theory.proofs.Directions.{direction_taken, no_direction_taken}
+use Rattle.theory.proofs.Results.{err_returned}
 use Rattle.theory.proofs.Tests.{and_made, unless_passed, unless_failed}
-use Rattle.format.specs.Given.{Given, gives, refused, ◌then◌}
+use Rattle.format.specs.declared.Refusal.{Refusal}
+use Rattle.format.specs.declared.Refusal.TheVariants.{NoSuchDirection}
+use Rattle.format.specs.declared.ListRefusal.{ListRefusal}
+use Rattle.format.specs.declared.ListRefusal.TheVariants.{Whole, Entry}
+use Rattle.format.specs.Given.{Given, gives, refused, given_at, ◌then◌}
 use Rattle.format.specs.Directions.{is_direction, direction}
-use Rattle.binary32_arithmetic.specs.declared.Examined.{Examined}
-use Rattle.binary32_arithmetic.specs.Slices.{examined_given, entries, first_refused, sums, inexact_entries, slices_answer}
+use Rattle.binary32_arithmetic.specs.Slices.{entries, first_refused, sums, inexact_entries, slices_answer, slices_written}
 use Rattle.binary32_arithmetic.proofs.slices.sum_slices.Goals as goal
 
 -- ---- the checks on any lists
@@ -33,11 +41,26 @@ module _ (d : ℕ) (a b out : List ℕ) where
     checked h k =
         ap (λ (t : Direction). first_refused (entries t a b) then (λ done. gives (inexact_entries t a b))) k ∙ sym (unless_passed _ _ (and_made (eq-eqb _ _ e) (eq-eqb _ _ g)) ∙ unless_passed _ _ h)
 
--- ---- after the first pass
-passed : (d : ℕ) (a b out : List ℕ) (s : Direction) (x y : Examined) → length a ≡ length b → length a ≡ length out → is_direction d ≡ true → s ≡ direction d
-    → examined_given x ≡ first_refused (entries s a b) → x ≡ y → examined_given y then (λ done. gives (inexact_entries s a b)) ≡ slices_answer d a b out
-passed d a b out s x y e g h k q p =
-    ap (λ (g : Given Unit). g then (λ done. gives (inexact_entries s a b))) (sym (ap examined_given p) ∙ q) ∙ checked d a b out e g h k
+-- ---- the direction that was read, or refusal 2
+module _ (d : ℕ) {m : Result Direction Refusal} where
+  taken : (t : Result Direction NoDirection) {k : Direction} → t ≡ direction_read d → MatchResult t (λ x. m ≡ Ok x) (λ e. IsErrAnd m (λ r. r ≡ NoSuchDirection)) → m ≡ Ok k
+      → (is_direction d ≡ true) × (k ≡ direction d)
+  taken (Ok x) e h w = let same : x ≡ _ = cc in rw same at (direction_taken d (sym e))
+  taken (Err x) e h w = let same : m ≡ Err NoSuchDirection = err_returned m h in cc
+
+  not_taken : (t : Result Direction NoDirection) {why : Refusal} → t ≡ direction_read d → MatchResult t (λ x. m ≡ Ok x) (λ e. IsErrAnd m (λ r. r ≡ NoSuchDirection)) → m ≡ Err why
+      → (is_direction d ≡ false) × (why ≡ NoSuchDirection)
+  not_taken (Ok x) e h w = cc
+  not_taken (Err x) e h w = let same : m ≡ Err NoSuchDirection = err_returned m h in (no_direction_taken d (sym e), cc)
+
+-- ---- a refusal is handed on, and leaves what was lent
+refused_leaves : {r : Result ℕ ListRefusal} {e : ListRefusal} (new old : List ℕ) → r ≡ Err e → old ≡ slices_written (given_at r) new old
+refused_leaves {e = Whole why} new old h = rw h
+refused_leaves {e = Entry why i} new old h = rw h
+
+handed_on : {r : Result ℕ ListRefusal} {x : Result Unit ListRefusal} {e : ListRefusal} {g : Given Unit} (next : Unit → Given ℕ) → r ≡ Err e → x ≡ Err e → given_at x ≡ g → given_at r ≡ (g then next)
+handed_on {e = Whole why} next f h k = rw (f, ← k, h)
+handed_on {e = Entry why i} next f h k = rw (f, ← k, h)
 
 pub returns-then-a-b : goal.returns-then-a-b
 returns-then-a-b c =
@@ -53,31 +76,34 @@ returns-then-a-out c =
       written = refl;
     }
 
-pub returns-then-not-is_direction : goal.returns-then-not-is_direction
-returns-then-not-is_direction c =
-    let s = c.args in record {
-      answer = no_direction s.direction s.a.now s.b.now s.out.now c.if-a-b.false c.if-a-out.false (sym c.is_direction.ensures ∙ c.if-not-is_direction.true);
-      written = refl;
+pub returns-in_err-direction : goal.returns-in_err-direction
+returns-in_err-direction c =
+    let s = c.args in
+    let not = not_taken s.direction c.try_from.result c.try_from.ensures c.map_err.ensures.cases c.in_err-direction.was in
+    let r = err_returned _ c.from_residual.ensures.1 in
+    record {
+      answer = ap given_at (rw not.1 at r) ∙ no_direction s.direction s.a.now s.b.now s.out.now c.if-a-b.false c.if-a-out.false not.0;
+      written = refused_leaves _ _ r;
     }
 
-pub direction_of-rounding-requires : goal.direction_of-rounding-requires
-direction_of-rounding-requires c = sym c.is_direction.ensures ∙ c.if-not-is_direction.false
-
-pub returns-in-RefusedAt : goal.returns-in-RefusedAt
-returns-in-RefusedAt c =
-    let s = c.args in record {
-      answer =
-          passed s.direction s.a.now s.b.now s.out.now c.direction_of-rounding.result _ _ c.if-a-b.false c.if-a-out.false
-          (sym c.is_direction.ensures ∙ c.if-not-is_direction.false) c.direction_of-rounding.ensures c.first_refused.ensures c.in-RefusedAt.is;
-      written = refl;
+pub returns-in_err-first_refused : goal.returns-in_err-first_refused
+returns-in_err-first_refused c =
+    let s = c.args in
+    let is = taken s.direction c.try_from.result c.try_from.ensures c.map_err.ensures.cases c.in_ok-direction.was in
+    let r = err_returned _ c.from_residual-in_err-first_refused.ensures.1 in
+    record {
+      answer = handed_on _ r c.in_err-first_refused.was c.first_refused.ensures ∙ checked s.direction s.a.now s.b.now s.out.now c.if-a-b.false c.if-a-out.false is.0 is.1;
+      written = refused_leaves _ _ r;
     }
 
-pub returns-in-Passed : goal.returns-in-Passed
-returns-in-Passed c =
-    let s = c.args in record {
+pub returns : goal.returns
+returns c =
+    let s = c.args in
+    let is = taken s.direction c.try_from.result c.try_from.ensures c.map_err.ensures.cases c.in_ok-direction.was in
+    record {
       answer =
           ap gives c.write_sums.ensures.count
-          ∙ passed s.direction s.a.now s.b.now s.out.now c.direction_of-rounding.result _ _ c.if-a-b.false c.if-a-out.false
-          (sym c.is_direction.ensures ∙ c.if-not-is_direction.false) c.direction_of-rounding.ensures c.first_refused.ensures c.in-Passed.is;
-      written = c.write_sums.ensures.written ∙ ap (λ (d : Direction). sums d s.a.now s.b.now) c.direction_of-rounding.ensures;
+          ∙ ap (λ (g : Given Unit). g then (λ done. gives (inexact_entries c.in_ok-direction.direction s.a.now s.b.now))) (sym (ap given_at c.in_ok-first_refused.was) ∙ c.first_refused.ensures)
+          ∙ checked s.direction s.a.now s.b.now s.out.now c.if-a-b.false c.if-a-out.false is.0 is.1;
+      written = c.write_sums.ensures.written ∙ ap (λ (d : Direction). sums d s.a.now s.b.now) is.1;
     }

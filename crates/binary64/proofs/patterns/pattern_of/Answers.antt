@@ -1,60 +1,40 @@
 -- `binary64::patterns::pattern_of` meets its contract: the parts fit, since the pattern has 64 bits.
-use Rattle.theory.proofs.Prelude.{◌<◌, ◌+◌, ◌^◌, ◌*◌, ◌∙◌, ap, ◌≡◌, arith, ℤ, nat_abs, ◌-ℤ◌, negsuc, w32, SFits, rules}
+use Rattle.theory.proofs.Prelude.{ℕ, ◌<◌, ◌+◌, ◌^◌, ◌*◌, true, ◌∙◌, ap, ◌≡◌, arith, ℤ, nat_abs, ◌-ℤ◌, negsuc, w32, SFits, to_z, of_z, rules}
 use Rattle.format.specs.Published.{binary64}
 use Rattle.format.proofs.Signed.{back}
-use Rattle.number.specs.Numbers.{place_of}
+use Rattle.number.specs.declared.Number.{Number}
+use Rattle.number.specs.Numbers.{member, place_of}
 use Rattle.number.specs.Patterns.{weight_above}
-use Rattle.number.proofs.Membership.{Member, members}
+use Rattle.number.proofs.Membership.{members}
 use Rattle.number.proofs.Values.{member_exponents}
 use Rattle.binary_patterns.specs.Patterns.{pattern_of}
-use Rattle.binary_patterns.proofs.RoundTrips.{pattern_less}
-use Rattle.binary64.proofs.Laws.{binary64_limits, widths}
+use Rattle.binary64.proofs.Laws.{binary64_limits, pattern_less}
 use Rattle.binary64.proofs.patterns.pattern_of.Goals as goal
+
+-- the place and the weight of the sign, as the code finds them
+module _ (x : Number) (e : SFits w32 x.exponent) {place weight : ℕ} (p : place ≡ nat_abs (to_z w32 (of_z w32 x.exponent) -ℤ negsuc 1073)) (s : weight ≡ weight_above 63 x.negative) where
+  sum_is : weight + place * 2 ^ 52 + x.significand ≡ pattern_of 11 52 x
+  unfolding pattern_of
+  sum_is =
+      let place_is : place ≡ place_of binary64 x = p ∙ ap (λ (k : ℤ). nat_abs (k -ℤ negsuc 1073)) (back e) in
+      omega (arith, s, place_is)
+
+  sum_fits : member binary64 x ≡ true → weight + place * 2 ^ 52 + x.significand < 2 ^ 64
+  sum_fits h = omega (arith, sum_is, pattern_less x h)
 
 pub distance-place-requires : goal.distance-place-requires
 distance-place-requires c =
     let exponent_fits : SFits w32 c.args.x.exponent = search rules in
-    let inside : Member binary64 c.args.x = members c.args.x binary64_limits c.requires in
-    rw (back exponent_fits) (member_exponents binary64_limits inside)
+    rw (back exponent_fits) (member_exponents binary64_limits (members _ binary64_limits c.requires))
 
 pub overflow_mul-result : goal.overflow_mul-result
-unfolding pattern_of
-overflow_mul-result c =
-    let exponent_fits : SFits w32 c.args.x.exponent = search rules in
-    let inside : Member binary64 c.args.x = members c.args.x binary64_limits c.requires in
-    let place_is : c.distance-place.result ≡ place_of binary64 c.args.x = c.distance-place.ensures ∙ ap (λ (e : ℤ). nat_abs (e -ℤ negsuc 1073)) (back exponent_fits) in
-    let sign_is : c.sign_weight.result ≡ weight_above 63 c.args.x.negative = c.sign_weight.ensures in
-    let sum_is : c.sign_weight.result + c.distance-place.result * 2 ^ 52 + c.args.x.significand ≡ pattern_of 11 52 c.args.x = omega (arith, sign_is, place_is) in
-    let sum_fits : c.sign_weight.result + c.distance-place.result * 2 ^ 52 + c.args.x.significand < 2 ^ 64 = omega (arith, sum_is, pattern_less widths c.args.x inside) in
-    record { fits = omega (arith, sum_fits) }
+overflow_mul-result c = record { fits = omega (arith, sum_fits c.args.x (search rules) c.distance-place.ensures c.sign_weight.ensures c.requires) }
 
 pub overflow_add-result : goal.overflow_add-result
-unfolding pattern_of
-overflow_add-result c =
-    let exponent_fits : SFits w32 c.args.x.exponent = search rules in
-    let inside : Member binary64 c.args.x = members c.args.x binary64_limits c.requires in
-    let place_is : c.distance-place.result ≡ place_of binary64 c.args.x = c.distance-place.ensures ∙ ap (λ (e : ℤ). nat_abs (e -ℤ negsuc 1073)) (back exponent_fits) in
-    let sign_is : c.sign_weight.result ≡ weight_above 63 c.args.x.negative = c.sign_weight.ensures in
-    let sum_is : c.sign_weight.result + c.distance-place.result * 2 ^ 52 + c.args.x.significand ≡ pattern_of 11 52 c.args.x = omega (arith, sign_is, place_is) in
-    let sum_fits : c.sign_weight.result + c.distance-place.result * 2 ^ 52 + c.args.x.significand < 2 ^ 64 = omega (arith, sum_is, pattern_less widths c.args.x inside) in
-    record { fits = omega (arith, sum_fits) }
+overflow_add-result c = record { fits = omega (arith, sum_fits c.args.x (search rules) c.distance-place.ensures c.sign_weight.ensures c.requires) }
 
 pub overflow_add-result-2 : goal.overflow_add-result-2
-unfolding pattern_of
-overflow_add-result-2 c =
-    let exponent_fits : SFits w32 c.args.x.exponent = search rules in
-    let inside : Member binary64 c.args.x = members c.args.x binary64_limits c.requires in
-    let place_is : c.distance-place.result ≡ place_of binary64 c.args.x = c.distance-place.ensures ∙ ap (λ (e : ℤ). nat_abs (e -ℤ negsuc 1073)) (back exponent_fits) in
-    let sign_is : c.sign_weight.result ≡ weight_above 63 c.args.x.negative = c.sign_weight.ensures in
-    let sum_is : c.sign_weight.result + c.distance-place.result * 2 ^ 52 + c.args.x.significand ≡ pattern_of 11 52 c.args.x = omega (arith, sign_is, place_is) in
-    let sum_fits : c.sign_weight.result + c.distance-place.result * 2 ^ 52 + c.args.x.significand < 2 ^ 64 = omega (arith, sum_is, pattern_less widths c.args.x inside) in
-    record { fits = omega (arith, sum_fits) }
+overflow_add-result-2 c = record { fits = omega (arith, sum_fits c.args.x (search rules) c.distance-place.ensures c.sign_weight.ensures c.requires) }
 
 pub returns : goal.returns
-unfolding pattern_of
-returns c =
-    let exponent_fits : SFits w32 c.args.x.exponent = search rules in
-    let place_is : c.distance-place.result ≡ place_of binary64 c.args.x = c.distance-place.ensures ∙ ap (λ (e : ℤ). nat_abs (e -ℤ negsuc 1073)) (back exponent_fits) in
-    let sign_is : c.sign_weight.result ≡ weight_above 63 c.args.x.negative = c.sign_weight.ensures in
-    let sum_is : c.sign_weight.result + c.distance-place.result * 2 ^ 52 + c.args.x.significand ≡ pattern_of 11 52 c.args.x = omega (arith, sign_is, place_is) in
-    sum_is
+returns c = sum_is c.args.x (search rules) c.distance-place.ensures c.sign_weight.ensures

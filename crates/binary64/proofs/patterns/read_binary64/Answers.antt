@@ -8,8 +8,5 @@ use Rattle.binary64.proofs.patterns.read_binary64.Goals as goal
 pub returns-then-not-is_finite : goal.returns-then-not-is_finite
 returns-then-not-is_finite c = sym (read_refused 11 52 _ (endless_field 11 52 _ (sym c.is_finite.ensures ∙ c.if-not-is_finite.true)))
 
-pub read_finite-requires : goal.read_finite-requires
-read_finite-requires c = sym c.is_finite.ensures ∙ c.if-not-is_finite.false
-
 pub returns : goal.returns
 returns c = ap gives c.read_finite.ensures ∙ sym (read_made 11 52 _ (sym c.is_finite.ensures ∙ c.if-not-is_finite.false))

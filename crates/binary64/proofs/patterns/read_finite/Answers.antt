@@ -4,7 +4,7 @@ use Rattle.binary64.proofs.Laws.{widths}
 use Rattle.binary64.proofs.patterns.read_finite.Goals as goal
 
 pub number_at-requires : goal.number_at-requires
-number_at-requires c = steps_ready widths c.args.pattern c.prepared_binary64.ensures c.field_of-field.ensures c.significand_of-significand.ensures c.place_of.ensures c.requires
+number_at-requires c = steps_ready widths c.args.pattern c.prepared_binary64.ensures c.field_of-field.ensures c.significand_of-significand.ensures c.saturating_sub-place.ensures c.requires
 
 pub returns : goal.returns
-returns c = steps_number widths c.args.pattern c.prepared_binary64.ensures c.field_of-field.ensures c.significand_of-significand.ensures c.place_of.ensures c.number_at.ensures
+returns c = steps_number widths c.args.pattern c.prepared_binary64.ensures c.field_of-field.ensures c.significand_of-significand.ensures c.saturating_sub-place.ensures c.number_at.ensures

@@ -1,20 +1,24 @@
--- `boundaries::small::are_small` meets its contract: every strip that was passed is small.
-use Rattle.theory.proofs.Prelude.{sym, arith, rules, ◌∙◌}
-use borrow.Author.Count.{below_more}
-use Rattle.theory.proofs.Lists.{all_made, all_fails}
+-- `boundaries::small::are_small` meets its contract: what std's `all` answers is `all` of theory.specs.Lists.
+use Rattle.std.proofs.Common.{rules, tests}
+use Rattle.std.specs.List.{list_all}
+use Rattle.std.proofs.lemmas.Iterator.{YieldsList-from_slice}
+use Rattle.std.proofs.lemmas.Iterator.Search.{all_from_yields_List}
+use Rattle.theory.proofs.Prelude.{ℕ, Bool, true, false, List, [], ◌∷◌, ◌&&◌, ◌∙◌, ◌≡◌, refl}
+use Rattle.theory.specs.Tests.{◌and◌}
+use Rattle.theory.specs.Lists.{all}
 use Rattle.boundaries.specs.Steps.{small_strip}
 use Rattle.boundaries.proofs.small.are_small.Goals as goal
 
-pub loop-i-init : goal.loop-i-init
-loop-i-init c = (search rules, λ k l. absurd (omega arith))
-
-pub returns-then-not-is_small : goal.returns-then-not-is_small
-returns-then-not-is_small c =
-    let l = c.args.strips.now in
-    sym (all_fails small_strip 0 l c.loop-i.i (omega arith) (sym c.is_small.ensures ∙ c.if-not-is_small.true))
-
-pub loop-i-preserved : goal.loop-i-preserved
-loop-i-preserved c = (search rules, below_more _ _ c.loop-i.invariant.1 (sym c.is_small.ensures ∙ c.if-not-is_small.false))
+all_is : (test : ℕ → Bool) (l : List ℕ) → list_all test l ≡ all test l
+unfolding all ◌and◌
+all_is test [] = refl
+all_is test (x ∷ xs) = rw (all_is test xs) (by (test x))
+  where
+    by : (t : Bool) → (t && all test xs) ≡ t and all test xs
+    by true = refl
+    by false = refl
 
 pub returns : goal.returns
-returns c = sym (all_made small_strip 0 c.args.strips.now (λ k h. c.loop-i.invariant.1 k (omega arith)))
+returns c =
+    let l = c.args.strips.now in
+    all_from_yields_List small_strip _ _ c.all.result c.all.ensures.ran (YieldsList-from_slice l cc) (λ x b q k. search (rules, tests)) ∙ all_is small_strip l

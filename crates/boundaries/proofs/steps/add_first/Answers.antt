@@ -1,7 +1,7 @@
 -- `boundaries::steps::add_first` meets its contract.
 use Rattle.theory.proofs.Prelude.{true, ◌∙◌, ap, ◌≡◌, sym, subst}
 use Rattle.format.specs.declared.Format.{Format}
-use Rattle.number.specs.Answers.{number_given}
+use Rattle.format.specs.Given.{given}
 use Rattle.number.specs.Numbers.{member}
 use Rattle.number.proofs.Membership.{known, prepared_format, prepared_member, usable}
 use Rattle.arithmetic.proofs.Results.{sum_member}
@@ -22,7 +22,7 @@ add-requires c =
 pub write_answer-requires : goal.write_answer-requires
 write_answer-requires c x h =
     let e = c.prepared_binary32.ensures in
-    subst (λ (f : Format). member f x ≡ true) (prepared_format e) (sum_member (known (usable binary32_admitted e)).admits _ c.read_finite.result c.read_finite-2.result (sym c.add.ensures ∙ ap number_given h))
+    subst (λ (f : Format). member f x ≡ true) (prepared_format e) (sum_member (known (usable binary32_admitted e)).admits _ c.read_finite.result c.read_finite-2.result (sym c.add.ensures ∙ ap given h))
 
 pub returns : goal.returns
 returns c =

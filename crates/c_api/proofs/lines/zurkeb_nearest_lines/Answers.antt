@@ -1,14 +1,8 @@
--- `c_api::lines::zurkeb_nearest_lines` meets its contract.
-use Rattle.theory.proofs.Prelude.{ℕ, ◌∙◌, ap}
-use Rattle.format.specs.Given.{Given}
-use Rattle.saved_lines.specs.Rows.{row_written}
-use Rattle.c_api.specs.Answers.{count_out}
+-- `c_api::lines::zurkeb_nearest_lines` meets its contract: the index of an offset, or of a query, is below 4,096.
+use Rattle.theory.proofs.Prelude.{◌∙◌, sym, arith}
+use Rattle.c_api.proofs.IndexLaws.{nearest_lines_below}
 use Rattle.c_api.proofs.lines.zurkeb_nearest_lines.Goals as goal
 
-pub returns : goal.returns
-returns c =
-    let s = c.args in
-    record {
-      answer = c.line_out.ensures ∙ ap count_out c.nearest_lines-answer.ensures.answer;
-      written = c.nearest_lines-answer.ensures.written ∙ ap (λ (x : Given ℕ). row_written x s.offsets.now s.queries.now s.out.now) c.nearest_lines-answer.ensures.answer;
-    }
+pub count_out-requires : goal.count_out-requires
+count_out-requires c number index e =
+    omega (arith, nearest_lines_below c.args.offsets.now c.args.queries.now _ number index (sym c.nearest_lines-answer.ensures.answer ∙ e))

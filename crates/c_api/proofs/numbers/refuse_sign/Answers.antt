@@ -1,15 +1,11 @@
 -- `c_api::numbers::refuse_sign` meets its contract.
-use Rattle.theory.proofs.Prelude.{[], ◌∷◌, ◌∙◌, ◌≡◌, sym}
-use Rattle.number.specs.Checks.{entered}
-use Rattle.number.proofs.CheckLaws.{goes_on, ends, prepared_entered, direction_after}
+use Rattle.theory.proofs.Prelude.{◌∙◌, sym}
+use Rattle.format.specs.Given.{refused}
+use Rattle.number.proofs.CheckLaws.{directed_stops, directed_answers}
 use Rattle.c_api.proofs.numbers.refuse_sign.Goals as goal
 
-pub returns-in-Refused : goal.returns-in-Refused
-returns-in-Refused c =
-    let entered_is : let s = c.args in c.with_direction.result ≡ entered s.format (s.direction ∷ []) [] = c.with_direction.ensures ∙ direction_after _ _ _ (c.prepare.ensures ∙ prepared_entered _) in
-    ends _ _ _ _ (sym entered_is ∙ c.in-Refused.is)
+pub returns-in_err-enter_directed : goal.returns-in_err-enter_directed
+returns-in_err-enter_directed c = directed_stops _ _ _ _ _ (sym c.enter_directed.ensures ∙ c.in_err-enter_directed.was) c.from_residual.ensures.1
 
-pub returns-in-Ready : goal.returns-in-Ready
-returns-in-Ready c =
-    let entered_is : let s = c.args in c.with_direction.result ≡ entered s.format (s.direction ∷ []) [] = c.with_direction.ensures ∙ direction_after _ _ _ (c.prepare.ensures ∙ prepared_entered _) in
-    goes_on _ _ _ _ (sym entered_is ∙ c.in-Ready.is)
+pub returns : goal.returns
+returns c = directed_answers _ _ _ (sym c.enter_directed.ensures ∙ c.in_ok-enter_directed.was) (λ f d. refused 3)

@@ -1,4 +1,4 @@
--- `decimal32::declets::declet_for` meets its contract: each case of the rule is a return.
+-- `decimal32::declets::declet_for` meets its contract: each case of the rule is an arm.
 use Rattle.theory.proofs.Prelude.{ℕ, ◌/◌, ◌%◌, true, false, Bool, ◌≡◌, ltb, lt-ltb, le-ltb}
 use Rattle.decimal32.specs.Declets.{write_digits, declet_for}
 use Rattle.decimal32.proofs.declets.declet_for.Goals as goal
@@ -9,26 +9,26 @@ picked : (n : ℕ) (a b c : Bool) → ltb (n / 100) 8 ≡ a → ltb (n / 10 % 10
 unfolding declet_for
 picked n a b c p q s e = rw (p, q, s) e
 
-pub returns-then-c-lt8 : goal.returns-then-c-lt8
-returns-then-c-lt8 c = picked _ true true true (lt-ltb _ _ c.if-a-lt8.true) (lt-ltb _ _ c.if-b-lt8.true) (lt-ltb _ _ c.if-c-lt8.true) c.bits.ensures
+pub returns-in-true-true-true : goal.returns-in-true-true-true
+returns-in-true-true-true c = picked _ true true true (lt-ltb _ _ c.in-true-true-true.is-0) (lt-ltb _ _ c.in-true-true-true.is-1) (lt-ltb _ _ c.in-true-true-true.is-2) c.bits.ensures
 
-pub returns-then-b-lt8 : goal.returns-then-b-lt8
-returns-then-b-lt8 c = picked _ true true false (lt-ltb _ _ c.if-a-lt8.true) (lt-ltb _ _ c.if-b-lt8.true) (le-ltb _ _ c.if-c-lt8.false) c.bits-then-b-lt8.ensures
+pub returns-in-true-true-false : goal.returns-in-true-true-false
+returns-in-true-true-false c = picked _ true true false (lt-ltb _ _ c.in-true-true-false.is-0) (lt-ltb _ _ c.in-true-true-false.is-1) (le-ltb _ _ c.in-true-true-false.is-2) c.bits-in-true-true-false.ensures
 
-pub returns-then-c-lt8-2 : goal.returns-then-c-lt8-2
-returns-then-c-lt8-2 c = picked _ true false true (lt-ltb _ _ c.if-a-lt8.true) (le-ltb _ _ c.if-b-lt8.false) (lt-ltb _ _ c.if-c-lt8-2.true) c.bits-then-c-lt8-2.ensures
+pub returns-in-true-false-true : goal.returns-in-true-false-true
+returns-in-true-false-true c = picked _ true false true (lt-ltb _ _ c.in-true-false-true.is-0) (le-ltb _ _ c.in-true-false-true.is-1) (lt-ltb _ _ c.in-true-false-true.is-2) c.bits-in-true-false-true.ensures
 
-pub returns-then-a-lt8 : goal.returns-then-a-lt8
-returns-then-a-lt8 c = picked _ true false false (lt-ltb _ _ c.if-a-lt8.true) (le-ltb _ _ c.if-b-lt8.false) (le-ltb _ _ c.if-c-lt8-2.false) c.bits-then-a-lt8.ensures
+pub returns-in-true-false-false : goal.returns-in-true-false-false
+returns-in-true-false-false c = picked _ true false false (lt-ltb _ _ c.in-true-false-false.is-0) (le-ltb _ _ c.in-true-false-false.is-1) (le-ltb _ _ c.in-true-false-false.is-2) c.bits-in-true-false-false.ensures
 
-pub returns-then-c-lt8-3 : goal.returns-then-c-lt8-3
-returns-then-c-lt8-3 c = picked _ false true true (le-ltb _ _ c.if-a-lt8.false) (lt-ltb _ _ c.if-b-lt8-2.true) (lt-ltb _ _ c.if-c-lt8-3.true) c.bits-then-c-lt8-3.ensures
+pub returns-in-false-true-true : goal.returns-in-false-true-true
+returns-in-false-true-true c = picked _ false true true (le-ltb _ _ c.in-false-true-true.is-0) (lt-ltb _ _ c.in-false-true-true.is-1) (lt-ltb _ _ c.in-false-true-true.is-2) c.bits-in-false-true-true.ensures
 
-pub returns-then-b-lt8-2 : goal.returns-then-b-lt8-2
-returns-then-b-lt8-2 c = picked _ false true false (le-ltb _ _ c.if-a-lt8.false) (lt-ltb _ _ c.if-b-lt8-2.true) (le-ltb _ _ c.if-c-lt8-3.false) c.bits-then-b-lt8-2.ensures
+pub returns-in-false-true-false : goal.returns-in-false-true-false
+returns-in-false-true-false c = picked _ false true false (le-ltb _ _ c.in-false-true-false.is-0) (lt-ltb _ _ c.in-false-true-false.is-1) (le-ltb _ _ c.in-false-true-false.is-2) c.bits-in-false-true-false.ensures
 
-pub returns-then-c-lt8-4 : goal.returns-then-c-lt8-4
-returns-then-c-lt8-4 c = picked _ false false true (le-ltb _ _ c.if-a-lt8.false) (le-ltb _ _ c.if-b-lt8-2.false) (lt-ltb _ _ c.if-c-lt8-4.true) c.bits-then-c-lt8-4.ensures
+pub returns-in-false-false-true : goal.returns-in-false-false-true
+returns-in-false-false-true c = picked _ false false true (le-ltb _ _ c.in-false-false-true.is-0) (le-ltb _ _ c.in-false-false-true.is-1) (lt-ltb _ _ c.in-false-false-true.is-2) c.bits-in-false-false-true.ensures
 
-pub returns : goal.returns
-returns c = picked _ false false false (le-ltb _ _ c.if-a-lt8.false) (le-ltb _ _ c.if-b-lt8-2.false) (le-ltb _ _ c.if-c-lt8-4.false) c.bits-2.ensures
+pub returns-in-false-false-false : goal.returns-in-false-false-false
+returns-in-false-false-false c = picked _ false false false (le-ltb _ _ c.in-false-false-false.is-0) (le-ltb _ _ c.in-false-false-false.is-1) (le-ltb _ _ c.in-false-false-false.is-2) c.bits-in-false-false-false.ensures

@@ -9,4 +9,4 @@ unfolding holds_declets
 entry_is table h n l = eqb-true (get_or table n 0) (declet_value n) (at_number (λ (i : ℕ). eqb (get_or table i 0) (declet_value i)) 1024 h n l)
 
 pub returns : goal.returns
-returns c = c.widened.ensures ∙ entry_is c.args.table.now c.requires.0 c.args.declet c.requires.1
+returns c = c.from.ensures ∙ entry_is c.args.table.now c.requires.0 c.args.declet c.requires.1

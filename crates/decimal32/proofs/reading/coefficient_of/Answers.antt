@@ -4,6 +4,7 @@ use Rattle.decimal32.specs.Declets.{declet_value}
 use Rattle.decimal32.specs.Patterns.{five_of, leading_digit, first_declet, second_declet, coefficient_of}
 use Rattle.decimal32.proofs.DecletLaws.{value_small}
 use Rattle.decimal32.proofs.Fields.{leading_small}
+use Rattle.decimal32.proofs.reading.coefficient_of.Goals.{After-six_digits-trailing}
 use Rattle.decimal32.proofs.reading.coefficient_of.Goals as goal
 
 -- what the calls gave
@@ -22,18 +23,15 @@ parts n l t =
       trailing_most = omega (arith, t, value_small {n = first_declet n} (omega arith), value_small {n = second_declet n} (omega arith));
     }
 
+told : (c : After-six_digits-trailing) → Parts c.args.pattern c.leading_digit-leading.result c.six_digits-trailing.result
+told c = parts _ (c.leading_digit-leading.ensures ∙ ap leading_digit c.five_of.ensures) c.six_digits-trailing.ensures
+
 pub overflow_mul-result : goal.overflow_mul-result
-overflow_mul-result c =
-    let told : Parts c.args.pattern c.leading_digit-leading.result c.six_digits-trailing.result = parts c.args.pattern (c.leading_digit-leading.ensures ∙ ap leading_digit c.five_of.ensures) c.six_digits-trailing.ensures in
-    let p = told in record { fits = omega arith }
+overflow_mul-result c = let p = told (goal.at.overflow_mul-result c).After-six_digits-trailing in record { fits = omega arith }
 
 pub overflow_add-result : goal.overflow_add-result
-overflow_add-result c =
-    let told : Parts c.args.pattern c.leading_digit-leading.result c.six_digits-trailing.result = parts c.args.pattern (c.leading_digit-leading.ensures ∙ ap leading_digit c.five_of.ensures) c.six_digits-trailing.ensures in
-    let p = told in record { fits = omega arith }
+overflow_add-result c = let p = told (goal.at.overflow_add-result c).After-six_digits-trailing in record { fits = omega arith }
 
 pub returns : goal.returns
 unfolding coefficient_of
-returns c =
-    let told : Parts c.args.pattern c.leading_digit-leading.result c.six_digits-trailing.result = parts c.args.pattern (c.leading_digit-leading.ensures ∙ ap leading_digit c.five_of.ensures) c.six_digits-trailing.ensures in
-    let p = told in omega arith
+returns c = let p = told (goal.at.returns c).After-six_digits-trailing in omega arith

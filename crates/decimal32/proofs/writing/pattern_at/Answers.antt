@@ -5,6 +5,7 @@ use Rattle.decimal32.specs.Declets.{declet_for}
 use Rattle.decimal32.specs.Patterns.{sign_weight, five_for}
 use Rattle.decimal32.proofs.DecletLaws.{declet_fits}
 use Rattle.decimal32.proofs.Fields.{five_fits}
+use Rattle.decimal32.proofs.writing.pattern_at.Goals.{After-sign_weight}
 use Rattle.decimal32.proofs.writing.pattern_at.Goals as goal
 
 -- what the calls gave
@@ -32,51 +33,26 @@ parts s m k hm hk v f a b =
       second_most = rw b (declet_fits {n = m % 1000} (omega arith));
     }
 
+told : (c : After-sign_weight) → Parts c.args.negative c.args.m c.args.k c.sign_weight.result c.five_for-five.result c.declet_for-first.result c.declet_for-second.result
+told c = parts _ _ _ c.requires.0 c.requires.1 c.sign_weight.ensures c.five_for-five.ensures c.declet_for-first.ensures c.declet_for-second.ensures
+
 pub overflow_mul-result : goal.overflow_mul-result
-overflow_mul-result c =
-    let told : Parts c.args.negative c.args.m c.args.k c.sign_weight.result c.five_for-five.result
-    c.declet_for-first.result c.declet_for-second.result = parts c.args.negative c.args.m c.args.k c.requires.0 c.requires.1 c.sign_weight.ensures c.five_for-five.ensures
-    c.declet_for-first.ensures c.declet_for-second.ensures in
-    let p = told in record { fits = omega arith }
+overflow_mul-result c = let p = told (goal.at.overflow_mul-result c).After-sign_weight in record { fits = omega arith }
 
 pub overflow_add-result : goal.overflow_add-result
-overflow_add-result c =
-    let told : Parts c.args.negative c.args.m c.args.k c.sign_weight.result c.five_for-five.result
-    c.declet_for-first.result c.declet_for-second.result = parts c.args.negative c.args.m c.args.k c.requires.0 c.requires.1 c.sign_weight.ensures c.five_for-five.ensures
-    c.declet_for-first.ensures c.declet_for-second.ensures in
-    let p = told in record { fits = omega arith }
+overflow_add-result c = let p = told (goal.at.overflow_add-result c).After-sign_weight in record { fits = omega arith }
 
 pub overflow_add-result-2 : goal.overflow_add-result-2
-overflow_add-result-2 c =
-    let told : Parts c.args.negative c.args.m c.args.k c.sign_weight.result c.five_for-five.result
-    c.declet_for-first.result c.declet_for-second.result = parts c.args.negative c.args.m c.args.k c.requires.0 c.requires.1 c.sign_weight.ensures c.five_for-five.ensures
-    c.declet_for-first.ensures c.declet_for-second.ensures in
-    let p = told in record { fits = omega arith }
+overflow_add-result-2 c = let p = told (goal.at.overflow_add-result-2 c).After-sign_weight in record { fits = omega arith }
 
 pub overflow_mul-result-3 : goal.overflow_mul-result-3
-overflow_mul-result-3 c =
-    let told : Parts c.args.negative c.args.m c.args.k c.sign_weight.result c.five_for-five.result
-    c.declet_for-first.result c.declet_for-second.result = parts c.args.negative c.args.m c.args.k c.requires.0 c.requires.1 c.sign_weight.ensures c.five_for-five.ensures
-    c.declet_for-first.ensures c.declet_for-second.ensures in
-    let p = told in record { fits = omega arith }
+overflow_mul-result-3 c = let p = told (goal.at.overflow_mul-result-3 c).After-sign_weight in record { fits = omega arith }
 
 pub overflow_add-result-3 : goal.overflow_add-result-3
-overflow_add-result-3 c =
-    let told : Parts c.args.negative c.args.m c.args.k c.sign_weight.result c.five_for-five.result
-    c.declet_for-first.result c.declet_for-second.result = parts c.args.negative c.args.m c.args.k c.requires.0 c.requires.1 c.sign_weight.ensures c.five_for-five.ensures
-    c.declet_for-first.ensures c.declet_for-second.ensures in
-    let p = told in record { fits = omega arith }
+overflow_add-result-3 c = let p = told (goal.at.overflow_add-result-3 c).After-sign_weight in record { fits = omega arith }
 
 pub overflow_add-result-4 : goal.overflow_add-result-4
-overflow_add-result-4 c =
-    let told : Parts c.args.negative c.args.m c.args.k c.sign_weight.result c.five_for-five.result
-    c.declet_for-first.result c.declet_for-second.result = parts c.args.negative c.args.m c.args.k c.requires.0 c.requires.1 c.sign_weight.ensures c.five_for-five.ensures
-    c.declet_for-first.ensures c.declet_for-second.ensures in
-    let p = told in record { fits = omega arith }
+overflow_add-result-4 c = let p = told (goal.at.overflow_add-result-4 c).After-sign_weight in record { fits = omega arith }
 
 pub returns : goal.returns
-returns c =
-    let told : Parts c.args.negative c.args.m c.args.k c.sign_weight.result c.five_for-five.result
-    c.declet_for-first.result c.declet_for-second.result = parts c.args.negative c.args.m c.args.k c.requires.0 c.requires.1 c.sign_weight.ensures c.five_for-five.ensures
-    c.declet_for-first.ensures c.declet_for-second.ensures in
-    let p = told in omega arith
+returns c = let p = told (goal.at.returns c).After-sign_weight in omega arith

@@ -2,7 +2,7 @@
 use Rattle.theory.proofs.Prelude.{ℕ, ◌^◌, ◌*◌, ◌-◌, ◌∙◌, ap, ◌≡◌, sym, le_trans, arith, w32, SFits, rules}
 use Rattle.theory.proofs.Tests.{unless_passed, unless_failed}
 use Rattle.format.specs.declared.Format.{Format}
-use Rattle.format.specs.declared.Preparation.TheVariants.{Ready}
+use Rattle.std.specs.Prelude.{Ok}
 use Rattle.format.specs.Formats.{preparation, highest_place, prepared_of}
 use Rattle.format.proofs.Signed.{back}
 use Rattle.format.proofs.Formats.{Admitted, admits, exponents_made, bound_least, least_bound}
@@ -40,7 +40,7 @@ returns c =
     let emin_fits : SFits w32 c.args.format.emin = search rules in
     let emax_fits : SFits w32 c.args.format.emax = search rules in
     let passed : Admitted c.args.format = admits _ (sym c.is_admitted.ensures ∙ c.if-not-is_admitted.false) in
-    ap Ready
+    ap Ok
     (worked_out c.args.format passed _ _ c.power-least.ensures
     (c.distance.ensures ∙ rw (back emin_fits, back emax_fits)))
     ∙ sym (unless_passed _ _ (sym c.is_admitted.ensures ∙ c.if-not-is_admitted.false))

@@ -6,6 +6,7 @@ use Rattle.lines.specs.Printing.{Put, text_of, line_feed}
 use Rattle.lines.specs.Blocks.{ended, begun}
 use Rattle.lines.proofs.Stores.{put_after, put_as, put_length, put_upto}
 use Rattle.lines.proofs.blocks.answer_block.Goals as goal
+use Rattle.lines.proofs.blocks.answer_block.Goals.{then-b-eq10, else-b-eq10}
 use Rattle.lines.proofs.blocks.answer_block.Invariants.{Going}
 
 module _ {first line : Line} {input before out : List ℕ} {i at : ℕ} (g : Going first input before i line at out) where
@@ -17,7 +18,6 @@ module _ {first line : Line} {input before out : List ℕ} {i at : ℕ} (g : Goi
     unfolding ended begun
     line_ends e p =
         record {
-          within = omega arith;
           room = omega (arith, p.ends, p.fits, g.room);
           same = put_length p ∙ g.same;
           completes = λ q. put_upto (omega arith) (g.completes (put_as (rw (rest, eq-eqb _ 10 e)) (put_after p q)));
@@ -28,7 +28,6 @@ module _ {first line : Line} {input before out : List ℕ} {i at : ℕ} (g : Goi
     unfolding ended begun
     byte_fed e =
         record {
-          within = omega arith;
           room = omega (arith, g.room);
           same = g.same;
           completes = λ q. put_upto (omega arith) (g.completes (put_as (rw (rest, ne_eqb _ 10 e)) q));
@@ -46,19 +45,20 @@ module _ {first line : Line} {input before out : List ℕ} {i at : ℕ} (g : Goi
   unfolding begun
   all_begun e = sym (ap (begun line) (none e)) ∙ g.begins
 
-pub loop-i-init : goal.loop-i-init
-loop-i-init c = record { within = omega arith; room = omega arith; same = refl; completes = λ q. put_upto (omega arith) q; begins = refl }
+pub loop-b-init : goal.loop-b-init
+loop-b-init c = record { room = omega arith; same = refl; completes = λ q. put_upto (omega arith) q; begins = refl }
 
-pub loop-i-preserved-then-b-eq10 : goal.loop-i-preserved-then-b-eq10
-loop-i-preserved-then-b-eq10 c = rw c.new_line-line.ensures (line_ends c.loop-i.invariant c.loop-i-test.true c.if-b-eq10.true c.put_line-at.ensures)
-
-pub loop-i-preserved : goal.loop-i-preserved
-loop-i-preserved c = rw c.push-line.ensures (byte_fed c.loop-i.invariant c.loop-i-test.true c.if-b-eq10.false)
+pub loop-b-preserved : goal.loop-b-preserved
+loop-b-preserved c =
+    elim c.if-b-eq10.branch [
+      | then-b-eq10 w ↦ rw (w.printed-is, w.out-is, w.line-is, w.new-line.ensures) (line_ends c.loop-b.invariant c.loop-b-test.true w.if-b-eq10.true w.put_line-printed.ensures)
+      | else-b-eq10 w ↦ rw (w.printed-is, w.out-is, w.line-is, w.push-line.ensures) (byte_fed c.loop-b.invariant c.loop-b-test.true w.if-b-eq10.false)
+    ]
 
 pub returns : goal.returns
 returns c =
-    let e : c.loop-i.i ≡ length c.args.input.now = omega (arith, c.loop-i.invariant.within) in
-    (all_begun c.loop-i.invariant e, all_ended c.loop-i.invariant e)
+    let e : c.loop-b.b-index ≡ length c.args.input.now = omega arith in
+    (all_begun c.loop-b.invariant e, all_ended c.loop-b.invariant e)
 
-pub put_line-at-requires : goal.put_line-at-requires
-put_line-at-requires c = omega (arith, c.loop-i.invariant.room, c.loop-i.invariant.same)
+pub put_line-printed-requires : goal.put_line-printed-requires
+put_line-printed-requires c = omega (arith, c.loop-b.invariant.room, c.loop-b.invariant.same)

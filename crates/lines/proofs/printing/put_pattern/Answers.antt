@@ -16,7 +16,7 @@ unfolding pattern_text
 returns-then-not-is_finite c =
     let n = c.args.pattern in
     let failed = sym c.is_finite.ensures ∙ c.if-not-is_finite.true in
-    put_upto (omega arith) (put_as (ap (λ (g : Given Number). answered_text n g ++ line_feed) (sym (read_refused n (endless_field n failed)))) (put_after c.put_field-next.ensures c.put_text.ensures))
+    put_upto (omega arith) (put_as (ap (λ (g : Given Number). answered_text n g ++ line_feed) (sym (read_refused n (endless_field n failed)))) (put_after c.put_field-at.ensures c.put_text.ensures))
 
 pub returns : goal.returns
 unfolding pattern_text
@@ -25,7 +25,7 @@ returns c =
     let n = c.args.pattern in
     put_as
     (ap (λ (c : PlacesGiven). spaced (low_digits 8 n ∷ fields c) ++ line_feed) c.places_of.ensures ∙ ap (λ (g : Given Number). answered_text n g ++ line_feed) (sym (read_made n passed)))
-    (put_after c.put_field-next.ensures c.put_places.ensures)
+    (put_after c.put_field-at.ensures c.put_places.ensures)
 
 pub places_of-requires : goal.places_of-requires
 places_of-requires c =

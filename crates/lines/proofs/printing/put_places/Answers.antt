@@ -10,18 +10,18 @@ joined : (q : PlacesGiven)
     ≡ spaced (fields q) ++ line_feed
 joined q = simp append_assoc
 
-pub put_field-third-requires : goal.put_field-third-requires
-put_field-third-requires c = let s = c.put_field-second.ensures in omega (arith, s.ends, s.fits, put_length s)
+pub put_field-at-requires-2 : goal.put_field-at-requires-2
+put_field-at-requires-2 c = let s = c.put_field-at.ensures in omega (arith, s.ends, s.fits, put_length s)
 
-pub put_field-fourth-requires : goal.put_field-fourth-requires
-put_field-fourth-requires c =
-    let s = put_after c.put_field-second.ensures c.put_field-third.ensures in
+pub put_field-at-requires-3 : goal.put_field-at-requires-3
+put_field-at-requires-3 c =
+    let s = put_after c.put_field-at.ensures c.put_field-at-2.ensures in
     omega (arith, s.ends, s.fits, put_length s)
 
 pub put_field-requires : goal.put_field-requires
 put_field-requires c =
-    let s = put_after c.put_field-second.ensures (put_after c.put_field-third.ensures c.put_field-fourth.ensures) in
+    let s = put_after c.put_field-at.ensures (put_after c.put_field-at-2.ensures c.put_field-at-3.ensures) in
     omega (arith, s.ends, s.fits, put_length s)
 
 pub returns : goal.returns
-returns c = put_as (joined (places_given c.args.places)) (put_after c.put_field-second.ensures (put_after c.put_field-third.ensures (put_after c.put_field-fourth.ensures c.put_field.ensures)))
+returns c = put_as (joined (places_given c.args.places)) (put_after c.put_field-at.ensures (put_after c.put_field-at-2.ensures (put_after c.put_field-at-3.ensures c.put_field.ensures)))

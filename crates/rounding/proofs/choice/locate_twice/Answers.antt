@@ -14,15 +14,3 @@ returns-then-twice-divisor-2 c = located_lower _ _ _ _ c.if-inner-eq0.false c.re
 
 pub returns-else-twice-divisor-2 : goal.returns-else-twice-divisor-2
 returns-else-twice-divisor-2 c = located_upper _ _ _ _ c.if-inner-eq0.false c.if-twice-divisor-2.false
-
-pub locate-requires : goal.locate-requires
-locate-requires c = (omega (arith, c.requires), omega (arith, c.requires))
-
-pub overflow_mul-twice : goal.overflow_mul-twice
-overflow_mul-twice c = omega (arith, c.requires)
-
-pub overflow_add-twice : goal.overflow_add-twice
-overflow_add-twice c = omega (arith, c.requires)
-
-pub locate-requires-then-twice-divisor : goal.locate-requires-then-twice-divisor
-locate-requires-then-twice-divisor c = (omega (arith, c.requires), omega (arith, c.requires))

@@ -1,8 +1,8 @@
 -- `rounding::cutting::cut_long` meets its contract: the divisor has the digits beyond the format's.
-use Rattle.theory.proofs.Prelude.{ℕ, ◌≤◌, ◌+◌, ◌-◌, ◌∙◌, ap, sym, mod-lt, arith}
+use Rattle.theory.proofs.Prelude.{ℕ, ◌≤◌, ◌+◌, ◌-◌, ◌∙◌, ap, sym, arith}
 use Rattle.two_words.specs.Amount.{amount}
-use Rattle.rounding.proofs.Prelude.{Unit, located, dropped, dropped_made, positional, digits_most, least_most, unit_pos, unit_most, high_below, least_unit, bound_unit, product_high, less_taken, less_left}
-use Rattle.rounding.proofs.Places.{Beyond, beyond_at, beyond_unit, divisor_fits, cut_drop}
+use Rattle.rounding.proofs.Prelude.{located, dropped, dropped_made, positional, digits_most, least_unit, bound_unit, less_taken, less_left}
+use Rattle.rounding.proofs.Places.{Beyond, beyond_at, beyond_unit, cut_drop}
 use Rattle.rounding.proofs.cutting.cut_long.Goals as goal
 use Rattle.rounding.proofs.cutting.cut_long.Goals.{Joined-not-within, then-not-within, else-not-within}
 
@@ -18,21 +18,6 @@ found c =
 least : (c : Joined-not-within) → c.args.scale.digits ≤ c.if-not-within.beyond + 1
 least c = elim c.if-not-within.branch [ then-not-within w ↦ omega (arith, w.beyond-is) | else-not-within w ↦ omega (arith, w.beyond-is) ]
 
-unit : (c : Joined-not-within) → Unit c.args.scale c.if-not-within.divisor c.if-not-within.beyond
-unit c = record { is = (found c).power; most = (found c).most }
-
-pub split_words-parts-requires : goal.split_words-parts-requires
-split_words-parts-requires c =
-    let f = found c.before.before in
-    let h = c.requires.0 in
-    (h, unit c.before.before, high_below c.args.n h.bound_most (divisor_fits h f.digits f.most (omega arith) f.power).3)
-
-pub locate-location-requires : goal.locate-location-requires
-locate-location-requires c =
-    let u = unit c.before.before.before in
-    let h = c.requires.0 in
-    (omega (arith, c.split_words-parts.ensures.1, mod-lt (amount c.args.n) (unit_pos h u), unit_most h u, h.bound_most), unit_pos h u)
-
 pub returns : goal.returns
 returns c =
     let f = found c.before.before.before in
@@ -44,11 +29,5 @@ returns c =
     ∙ ap (λ (m : ℕ). dropped n m place) f.power
     ∙ sym (cut_drop (positional c.requires.0) f.digits a.up a.down c.if-not-within.beyond place (omega arith) (omega (arith, least c.before.before.before, c.requires.4)))
 
-pub less-within-requires : goal.less-within-requires
-less-within-requires c = let h = c.requires.0 in product_high c.product.result c.product.ensures (omega (arith, least_most h, h.bound_most)) h.bound_most
-
 pub overflow_add-place : goal.overflow_add-place
 overflow_add-place c = let p = c.requires in omega (arith, (found c.before.before).most, digits_most p.0, p.3)
-
-pub overflow_sub-place : goal.overflow_sub-place
-overflow_sub-place c = omega (arith, least c.before.before, c.requires.4)

@@ -1,8 +1,11 @@
 -- `rounding::cutting::drop_beyond` meets its contract: the upper part is divided.
-use Rattle.theory.proofs.Prelude.{ℕ, ◌≤◌, ◌+◌, ◌^◌, ◌*◌, ◌-◌, ◌/◌, ◌%◌, ◌∙◌, ap, ap₂, mod-lt, arith}
+use Rattle.theory.proofs.Prelude.{ℕ, ◌≤◌, ◌+◌, ◌^◌, ◌*◌, ◌-◌, ◌/◌, ◌%◌, ◌∙◌, ap, ap₂, ◌≡◌, mod-lt, arith}
 use Rattle.two_words.specs.Amount.{amount}
-use Rattle.rounding.proofs.Prelude.{pow_pos, pow_half, dropped, dropped_made, dropped_under, located, square, power_most, power_beyond, bound_pos, digits_most, high_below, twice_steps, twice_rest}
+use Rattle.rounding.proofs.Prelude.{Scale, Scaled, pow_pos, pow_half, dropped, dropped_made, dropped_under, located, square, power_most, power_beyond, bound_pos, digits_most, twice_steps, twice_rest}
 use Rattle.rounding.proofs.cutting.drop_beyond.Goals as goal
+
+power_some : {s : Scale} → Scaled s → (k : ℕ) {w : ℕ} → w ≡ s.base ^ k → 1 ≤ w
+power_some h k e = omega (arith, e, pow_pos h.base_least k)
 
 -- n has at most twice the digits of the format
 pub returns-then-scale-j : goal.returns-then-scale-j
@@ -12,7 +15,7 @@ returns-then-scale-j c =
 
 pub locate_twice-location-requires : goal.locate_twice-location-requires
 locate_twice-location-requires c =
-    let some : 1 ≤ c.power-divisor.result = omega (arith, c.power-divisor.ensures, pow_pos c.requires.0.base_least (c.args.j - c.args.scale.digits)) in
+    let some = power_some c.requires.0 _ c.power-divisor.ensures in
     let h = c.requires.0 in
     let few : c.args.j - c.args.scale.digits ≤ c.args.scale.digits = omega (arith, c.if-scale-j.false) in (
       mod-lt c.divide-parts.result.quotient some,
@@ -23,7 +26,7 @@ locate_twice-location-requires c =
 
 pub returns : goal.returns
 returns c =
-    let some : 1 ≤ c.power-divisor.result = omega (arith, c.power-divisor.ensures, pow_pos c.requires.0.base_least (c.args.j - c.args.scale.digits)) in
+    let some = power_some c.requires.0 _ c.power-divisor.ensures in
     let d = c.divide-parts.ensures in
     let n = amount c.args.n in
     let P = c.args.scale.bound in
@@ -38,15 +41,8 @@ returns c =
 pub overflow_mul-scale : goal.overflow_mul-scale
 overflow_mul-scale c = omega (arith, digits_most c.requires.0)
 
-pub divide-parts-requires : goal.divide-parts-requires
-divide-parts-requires c = (bound_pos c.requires.0, high_below c.args.n c.requires.0.bound_most c.requires.2)
-
 pub nonzero_div-steps : goal.nonzero_div-steps
-nonzero_div-steps c =
-    let some : 1 ≤ c.power-divisor.result = omega (arith, c.power-divisor.ensures, pow_pos c.requires.0.base_least (c.args.j - c.args.scale.digits)) in
-    some
+nonzero_div-steps c = power_some c.requires.0 _ c.power-divisor.ensures
 
 pub nonzero_rem-upper : goal.nonzero_rem-upper
-nonzero_rem-upper c =
-    let some : 1 ≤ c.power-divisor.result = omega (arith, c.power-divisor.ensures, pow_pos c.requires.0.base_least (c.args.j - c.args.scale.digits)) in
-    some
+nonzero_rem-upper c = power_some c.requires.0 _ c.power-divisor.ensures

@@ -1,5 +1,5 @@
 -- `rounding::cutting::split` meets its contract: in base 2 the divisor is a power of two.
-use Rattle.theory.proofs.Prelude.{ℕ, ◌≤◌, ◌^◌, ◌-◌, ◌/◌, ◌%◌, ◌∙◌, ap, ◌≡◌, sym, arith}
+use Rattle.theory.proofs.Prelude.{ℕ, ◌-◌, ◌/◌, ◌%◌, ◌∙◌, ap, sym, arith}
 use lib.Bits.{bit_and, and_mask}
 use Rattle.rounding.proofs.Prelude.{unit_pos, unit_two, digits_most}
 use Rattle.rounding.proofs.cutting.split.Goals as goal
@@ -7,23 +7,14 @@ use Rattle.rounding.proofs.cutting.split.Goals as goal
 pub returns-then-scale-eq2 : goal.returns-then-scale-eq2
 returns-then-scale-eq2 c =
     let a = c.args in
-    let power : a.divisor ≡ 2 ^ a.j = unit_two c.requires.0 c.requires.1 c.if-scale-eq2.true in
+    let power = unit_two c.requires.0 c.requires.1 c.if-scale-eq2.true in
     (ap (λ (d : ℕ). a.n / d) (sym power), ap (λ (d : ℕ). bit_and a.n (d - 1)) power ∙ and_mask a.n a.j ∙ ap (λ (d : ℕ). a.n % d) (sym power))
 
 pub overflow_shr-result : goal.overflow_shr-result
 overflow_shr-result c = let p = c.requires in omega (arith, p.1.most, digits_most p.0)
 
-pub overflow_sub-result : goal.overflow_sub-result
-overflow_sub-result c =
-    let positive : 1 ≤ c.args.divisor = let p = c.requires in unit_pos p.0 p.1 in
-    omega (arith, positive)
-
 pub nonzero_div-result : goal.nonzero_div-result
-nonzero_div-result c =
-    let positive : 1 ≤ c.args.divisor = let p = c.requires in unit_pos p.0 p.1 in
-    positive
+nonzero_div-result c = unit_pos c.requires.0 c.requires.1
 
 pub nonzero_rem-result : goal.nonzero_rem-result
-nonzero_rem-result c =
-    let positive : 1 ≤ c.args.divisor = let p = c.requires in unit_pos p.0 p.1 in
-    positive
+nonzero_rem-result c = unit_pos c.requires.0 c.requires.1

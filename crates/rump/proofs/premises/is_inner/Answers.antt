@@ -32,28 +32,25 @@ number_at-greatest-requires c =
     let u = c.requires.usable in
     (u, digits_least (known u).admits.base_low (two_least u) (known u).bound _, le_refl _)
 
-pub is_smaller-requires : goal.is_smaller-requires
+-- the bound that the code makes
+bound_has : {q : Prepared} → Usable q → {b : Number} → b ≡ number q.format false ((q.scale.bound - 1) * q.format.base ^ q.highest) → Has q.format b (pos (greatest q.format))
 unfolding greatest
-is_smaller-requires c =
-    let bound : let f = c.args.prepared.format in Has f c.number_at-greatest.result (pos (greatest f)) = let f = c.args.prepared.format in
-    let k = known c.requires.usable in
+bound_has {q} u e =
+    let k = known u in
     number_has k.admits (greatest_wide k.admits) (le_refl _)
-    (c.number_at-greatest.ensures ∙ ap (number f false) (ap₂ (λ (t h : ℕ). (t - 1) * f.base ^ h) k.bound k.highest)) in
-    (c.requires.usable.format, c.requires.number, bound.number)
+    (e ∙ ap (number q.format false) (ap₂ (λ (t h : ℕ). (t - 1) * q.format.base ^ h) k.bound k.highest))
+
+pub is_smaller-requires : goal.is_smaller-requires
+is_smaller-requires c = (c.requires.usable.format, c.requires.number, (bound_has c.requires.usable c.number_at-greatest.ensures).number)
 
 some : (f : Format) (x : Number) → 2 ≤ f.base → (x.significand ≡ 0 → ⊥) → 1 ≤ magnitude f x
 unfolding magnitude
 some f x b h = mul-pos (omega arith) (pow_pos b (place_of f x))
 
 pub returns : goal.returns
-unfolding greatest
 returns c =
-    let bound : let f = c.args.prepared.format in Has f c.number_at-greatest.result (pos (greatest f)) = let f = c.args.prepared.format in
-    let k = known c.requires.usable in
-    number_has k.admits (greatest_wide k.admits) (le_refl _)
-    (c.number_at-greatest.ensures ∙ ap (number f false) (ap₂ (λ (t h : ℕ). (t - 1) * f.base ^ h) k.bound k.highest)) in
     let f = c.args.prepared.format in
     let x = c.args.x in
     let a = (known c.requires.usable).admits in
-    c.is_smaller.ensures ∙ ap (ltb (magnitude f x)) (has_size bound)
+    c.is_smaller.ensures ∙ ap (ltb (magnitude f x)) (has_size (bound_has c.requires.usable c.number_at-greatest.ensures))
     ∙ next_by f x (some f x a.base_low c.if-x-eq0.false) (member_greatest a (members x a c.requires.number))

@@ -3,8 +3,5 @@ use Rattle.theory.proofs.Prelude.{◌∙◌}
 use Rattle.rump.proofs.Reach.{last_of}
 use Rattle.rump.proofs.premises.last_premise.Goals as goal
 
-pub is_inner-requires : goal.is_inner-requires
-is_inner-requires c = record { usable = c.requires.usable; number = c.requires.number }
-
 pub returns : goal.returns
 returns c = c.is_inner.ensures ∙ last_of _ c.args.x c.requires.kept

@@ -1,41 +1,30 @@
 -- `rump::routes::ufp_by_successor` meets its contract.
-use Rattle.theory.proofs.Prelude.{false, [], ◌∷◌, ◌∙◌, ap}
+use Rattle.theory.proofs.Prelude.{false, ◌∙◌, ap, sym}
 use Rattle.theory.specs.Tests.{unless}
 use Rattle.theory.specs.declared.Direction.{Direction}
-use Rattle.number.proofs.Prelude.{Format, refused, magnitude, number, Operand, members, known}
+use Rattle.number.proofs.Prelude.{Format, refused, magnitude, number, members, known, operand, directed_enters, directed_stops, directed_answers}
 use Rattle.number.specs.declared.Number.{Number}
-use Rattle.number.proofs.CheckLaws.{first_direction, operand}
-use Rattle.arithmetic.proofs.Entries.{Entered, directed, numbered, call_enters, call_answers, call_ends}
 use Rattle.rump.specs.Premises.{scaled_premise}
 use Rattle.rump.specs.Figures.{figure6}
 use Rattle.rump.specs.Routes.{ufp_by_successor}
 use Rattle.rump.proofs.RouteLaws.{first_of_size, size_of, size_member}
 use Rattle.rump.proofs.routes.ufp_by_successor.Goals as goal
 
-pub direction_of-requires : goal.direction_of-requires
-direction_of-requires c =
-    let checks : Entered c.args.format c.args.direction (c.args.x ∷ []) c.with_number.result = numbered (directed c.prepare.ensures c.with_direction.ensures) c.with_number.ensures in
-    first_direction (call_enters checks c.in-Ready.is)
-
-pub first_by_successor-requires : goal.first_by_successor-requires
-first_by_successor-requires c =
-    let checks : Entered c.args.format c.args.direction (c.args.x ∷ []) c.with_number.result = numbered (directed c.prepare.ensures c.with_direction.ensures) c.with_number.ensures in
-    let i : Operand c.in-Ready.prepared c.args.x = operand (call_enters checks c.in-Ready.is) in
-    (record { usable = i.usable; number = size_member i c.with_sign.ensures }, ap (λ (y : Number). y.negative) c.with_sign.ensures)
-
-pub returns-in-Refused : goal.returns-in-Refused
+pub returns-in_err-prepared : goal.returns-in_err-prepared
 unfolding ufp_by_successor
-returns-in-Refused c =
-    let checks : Entered c.args.format c.args.direction (c.args.x ∷ []) c.with_number.result = numbered (directed c.prepare.ensures c.with_direction.ensures) c.with_number.ensures in
-    call_ends checks c.in-Refused.is _
+returns-in_err-prepared c = directed_stops _ _ _ _ _ (sym c.enter_directed_number.ensures ∙ c.in_err-prepared.was) c.from_residual.ensures.1
 
-pub returns-in-Ready : goal.returns-in-Ready
+pub returns : goal.returns
 unfolding ufp_by_successor
-returns-in-Ready c =
-    let checks : Entered c.args.format c.args.direction (c.args.x ∷ []) c.with_number.result = numbered (directed c.prepare.ensures c.with_direction.ensures) c.with_number.ensures in
-    let i : Operand c.in-Ready.prepared c.args.x = operand (call_enters checks c.in-Ready.is) in
+returns c =
+    let entered = sym c.enter_directed_number.ensures ∙ c.in_ok-prepared.was in
+    let i = operand (directed_enters _ _ _ entered) in
     let a = (known i.usable).admits in
     let x = c.args.x in
     c.first_by_successor.ensures ∙ first_of_size a (members x a i.number) _ (size_of i c.with_sign.ensures)
-    ∙ call_answers checks c.in-Ready.is
-    (λ (g : Format) (d : Direction). unless (scaled_premise g x) (refused 8) (figure6 g d (number g false (magnitude g x)))) c.direction_of.ensures
+    ∙ directed_answers _ _ _ entered (λ (g : Format) (d : Direction). unless (scaled_premise g x) (refused 8) (figure6 g d (number g false (magnitude g x))))
+
+pub first_by_successor-requires : goal.first_by_successor-requires
+first_by_successor-requires c =
+    let i = operand (directed_enters _ _ _ (sym c.enter_directed_number.ensures ∙ c.in_ok-prepared.was)) in
+    (record { usable = i.usable; number = size_member i c.with_sign.ensures }, ap (λ (y : Number). y.negative) c.with_sign.ensures)

@@ -1,20 +1,23 @@
 -- `rump::successors::gap_above` meets its contract.
-use Rattle.theory.proofs.Prelude.{◌∙◌, ap, sym}
-use Rattle.number.proofs.Prelude.{number_given, members, known}
-use Rattle.rump.proofs.SuccessorFigures.{successor_member, gap_ends, gap_goes_on}
+use Rattle.number.proofs.Prelude.{members, known}
+use Rattle.rump.specs.Figures.{gap_above}
+use Rattle.rump.proofs.Steps.{gave, refuses, ended}
+use Rattle.rump.proofs.SuccessorFigures.{successor_member}
 use Rattle.rump.proofs.successors.gap_above.Goals as goal
 
-pub returns-in_default : goal.returns-in_default
-returns-in_default c = gap_ends c.args.prepared.format c.args.x c.args.direction c.successor-next.ensures c.in_default.is
+pub returns-in_err-s : goal.returns-in_err-s
+unfolding gap_above
+returns-in_err-s c = rw (refuses c.successor.ensures c.in_err-s.was) (ended _ _ c.from_residual.ensures.1)
 
 pub subtract-requires : goal.subtract-requires
 subtract-requires c =
     let a = (known c.requires.usable).admits in
     record {
       usable = c.requires.usable;
-      first = successor_member c.args.prepared.format c.args.x a (members _ a c.requires.number) (sym c.successor-next.ensures ∙ ap number_given c.in-Value.is);
+      first = successor_member c.args.prepared.format c.args.x a (members _ a c.requires.number) (gave c.successor.ensures c.in_ok-s.was);
       second = c.requires.number;
     }
 
 pub returns : goal.returns
-returns c = gap_goes_on c.args.prepared.format c.args.x c.args.direction c.successor-next.ensures c.in-Value.is c.subtract.ensures
+unfolding gap_above
+returns c = rw (gave c.successor.ensures c.in_ok-s.was) c.subtract.ensures

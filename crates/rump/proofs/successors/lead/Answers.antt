@@ -1,10 +1,23 @@
 -- `rump::successors::lead` meets its contract.
-use Rattle.theory.proofs.Prelude.{ℕ, ◌+◌, ◌-◌, ◌^◌, false, ◌∙◌, ap, ◌≡◌, arith, w32, SFits, rules}
-use Rattle.number.proofs.Prelude.{back, above_zero, below_zero, number, known, emin_admitted}
+use Rattle.theory.proofs.Prelude.{ℕ, ◌+◌, ◌-◌, ◌^◌, false, ◌∙◌, ap, ◌≡◌, arith, rules}
+use Rattle.number.proofs.Prelude.{Prepared, above_zero, below_zero, number, known}
+use Rattle.number.proofs.Membership.{Known}
 use Rattle.arithmetic.proofs.Prepared.{below_most}
 use Rattle.rump.specs.Figures.{lead_place}
-use Rattle.rump.proofs.Reach.{led}
+use Rattle.rump.proofs.Reach.{led, above_read, below_read, emin_read}
 use Rattle.rump.proofs.successors.lead.Goals as goal
+
+-- the place that the code works out
+place_is : {q : Prepared} → Known q → {b a : ℕ} → b ≡ below_zero q.format.emin → a ≡ above_zero q.format.emin → q.scale.digits - 1 + b - a ≡ lead_place q.format
+place_is k h l = omega (arith, k.digits, h, l)
+
+pub returns : goal.returns
+returns c =
+    let f = c.args.prepared.format in
+    let low = below_read f.emin c.below_zero.ensures (search rules) in
+    let high = above_read f.emin c.above_zero.ensures (search rules) in
+    let place = place_is (known c.requires.0) low high in
+    c.power_number.ensures ∙ ap (λ (i : ℕ). number f false (f.base ^ i)) place
 
 pub overflow_sub-place : goal.overflow_sub-place
 overflow_sub-place c =
@@ -12,41 +25,29 @@ overflow_sub-place c =
     omega (arith, k.digits, k.admits.digits_low)
 
 pub below_zero-requires : goal.below_zero-requires
-below_zero-requires c =
-    let emin_fits : SFits w32 c.args.prepared.format.emin = search rules in
-    rw (back emin_fits) (emin_admitted (known c.requires.0).admits)
+below_zero-requires c = emin_read (known c.requires.0).admits (search rules)
 
 pub overflow_add-place : goal.overflow_add-place
 overflow_add-place c =
-    let emin_fits : SFits w32 c.args.prepared.format.emin = search rules in
-    let below : c.below_zero.result ≡ below_zero c.args.prepared.format.emin = c.below_zero.ensures ∙ ap below_zero (back emin_fits) in
     let k = known c.requires.0 in
-    omega (arith, below, below_most k.admits, k.digits, k.admits.digits_high)
+    omega (arith, below_read c.args.prepared.format.emin c.below_zero.ensures (search rules), below_most k.admits, k.digits, k.admits.digits_high)
 
 pub overflow_sub-place-2 : goal.overflow_sub-place-2
 overflow_sub-place-2 c =
-    let emin_fits : SFits w32 c.args.prepared.format.emin = search rules in
-    let below : c.below_zero.result ≡ below_zero c.args.prepared.format.emin = c.below_zero.ensures ∙ ap below_zero (back emin_fits) in
-    let above : c.above_zero.result ≡ above_zero c.args.prepared.format.emin = c.above_zero.ensures ∙ ap above_zero (back emin_fits) in
     let k = known c.requires.0 in
-    omega (arith, below, above, k.digits, (led k.admits c.requires.1).low)
+    omega (
+      arith,
+      below_read c.args.prepared.format.emin c.below_zero.ensures (search rules),
+      above_read c.args.prepared.format.emin c.above_zero.ensures (search rules),
+      k.digits,
+      (led k.admits c.requires.1).low,
+    )
 
 pub power_number-requires : goal.power_number-requires
 power_number-requires c =
-    let emin_fits : SFits w32 c.args.prepared.format.emin = search rules in
-    let below : c.below_zero.result ≡ below_zero c.args.prepared.format.emin = c.below_zero.ensures ∙ ap below_zero (back emin_fits) in
-    let above : c.above_zero.result ≡ above_zero c.args.prepared.format.emin = c.above_zero.ensures ∙ ap above_zero (back emin_fits) in
-    let place : c.args.prepared.scale.digits - 1 + c.below_zero.result - c.above_zero.result ≡ lead_place c.args.prepared.format = let k = known c.requires.0 in
-    omega (arith, k.digits, below, above) in
-    let k = known c.requires.0 in
-    (c.requires.0, omega (arith, place, k.digits, k.admits.digits_low, k.highest, (led k.admits c.requires.1).high))
-
-pub returns : goal.returns
-returns c =
-    let emin_fits : SFits w32 c.args.prepared.format.emin = search rules in
-    let below : c.below_zero.result ≡ below_zero c.args.prepared.format.emin = c.below_zero.ensures ∙ ap below_zero (back emin_fits) in
-    let above : c.above_zero.result ≡ above_zero c.args.prepared.format.emin = c.above_zero.ensures ∙ ap above_zero (back emin_fits) in
-    let place : c.args.prepared.scale.digits - 1 + c.below_zero.result - c.above_zero.result ≡ lead_place c.args.prepared.format = let k = known c.requires.0 in
-    omega (arith, k.digits, below, above) in
     let f = c.args.prepared.format in
-    c.power_number.ensures ∙ ap (λ (i : ℕ). number f false (f.base ^ i)) place
+    let k = known c.requires.0 in
+    let low = below_read f.emin c.below_zero.ensures (search rules) in
+    let high = above_read f.emin c.above_zero.ensures (search rules) in
+    let place = place_is k low high in
+    (c.requires.0, omega (arith, place, k.digits, k.admits.digits_low, k.highest, (led k.admits c.requires.1).high))

@@ -1,22 +1,12 @@
--- `saved_lines::checks::is_descending` meets its contract: no offset that was passed is above the next.
-use Rattle.theory.proofs.Prelude.{◌-◌, suc, ◌∙◌, ◌≡◌, sym, arith, rules}
-use Rattle.theory.proofs.Lists.{neighbours_more}
-use Rattle.saved_lines.proofs.Offsets.{descends_here, descends_nowhere}
+-- `saved_lines::checks::is_descending` meets its contract.
+use Rattle.theory.proofs.Prelude.{rules, not}
+use Rattle.std.proofs.lemmas.Fn.{always_returns_same}
+use Rattle.binary32.specs.Patterns.{pattern_value}
+use Rattle.saved_lines.specs.Offsets.{falls}
+use Rattle.saved_lines.proofs.Offsets.{told_descends}
 use Rattle.saved_lines.proofs.checks.is_descending.Goals as goal
 
-pub loop-i-init : goal.loop-i-init
-loop-i-init c = (search rules, λ k l. absurd (omega arith))
-
-pub returns-then-is_below : goal.returns-then-is_below
-returns-then-is_below c =
-    let l = c.args.offsets.now in
-    let here : suc (c.loop-i.i - 1) ≡ c.loop-i.i = omega arith in
-    sym (descends_here l (c.loop-i.i - 1) (omega arith) (rw here (sym c.is_below.ensures ∙ c.if-is_below.true)))
-
-pub loop-i-preserved : goal.loop-i-preserved
-loop-i-preserved c =
-    let here : suc (c.loop-i.i - 1) ≡ c.loop-i.i = omega arith in
-    (search rules, neighbours_more c.loop-i.i c.loop-i.invariant.0 c.loop-i.invariant.1 (rw here (sym c.is_below.ensures ∙ c.if-is_below.false)))
-
 pub returns : goal.returns
-returns c = sym (descends_nowhere c.args.offsets.now (λ k h. c.loop-i.invariant.1 k (omega arith)))
+unfolding falls
+returns c =
+    told_descends c.args.offsets.now _ (c.is_sorted_by.ensures.cases (λ v w. not (falls (pattern_value v) (pattern_value w))) (always_returns_same _ _ _ (λ a r f k. search rules)))

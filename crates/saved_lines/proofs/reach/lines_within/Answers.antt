@@ -1,69 +1,38 @@
 -- `saved_lines::reach::lines_within` meets its contract.
-use Rattle.theory.proofs.Prelude.{ℕ, ◌-◌, true, Bool, List, ◌++◌, ◌∙◌, ap, ◌≡◌, sym, refl, arith, length, drop}
-use Rattle.theory.specs.Tests.{◌and◌}
-use Rattle.theory.proofs.Tests.{and_left}
-use Rattle.binary32.specs.Patterns.{finite, pattern_value, pattern_values}
-use Rattle.saved_lines.specs.declared.Check.{Check}
-use Rattle.saved_lines.specs.declared.Check.TheVariants.{Passed}
+use Rattle.theory.proofs.Prelude.{ℕ, ◌-◌, List, ◌++◌, ◌∙◌, ap, ◌≡◌, length, drop, ap₂}
+use Rattle.binary32.specs.Patterns.{pattern_value, pattern_values}
 use Rattle.saved_lines.specs.Offsets.{nearest_first}
-use Rattle.saved_lines.specs.Lines.{list_given, lines_checked, Checked}
-use Rattle.saved_lines.proofs.Checking.{passed_checks}
-use Rattle.saved_lines.proofs.Reaches.{within_after, within_short, within_found}
+use Rattle.saved_lines.specs.Positions.{range}
+use Rattle.saved_lines.specs.Lines.{lines_found}
+use Rattle.saved_lines.proofs.Reaches.{within_refused, within_short, within_found, within_kept}
 use Rattle.saved_lines.proofs.reach.lines_within.Goals as goal
+use Rattle.saved_lines.proofs.reach.lines_within.Goals.{After-within-found}
 
-module _ (l : List ℕ) (q d : ℕ) {t : Bool} (f : t ≡ (finite q and finite d)) (k : Check) (e : list_given k ≡ lines_checked l t) where
-  -- what the check answered
-  told : list_given k ≡ lines_checked l (finite q and finite d)
-  told = e ∙ ap (lines_checked l) f
-
-  there : k ≡ Passed → Checked l × (finite q and finite d ≡ true)
-  there p = passed_checks l (finite q and finite d) (sym told ∙ ap list_given p)
-
-pub range_within-found-requires : goal.range_within-found-requires
-range_within-found-requires c = there c.args.offsets.now c.args.query c.args.distance c.are_finite.ensures c.check_lines.result c.check_lines.ensures c.in-Passed.is
-
-pub overflow_sub-count : goal.overflow_sub-count
-overflow_sub-count c =
-    let w = c.range_within-found.ensures.walk in
-    omega (arith, w.low, w.high)
-
-pub returns-then-out-count : goal.returns-then-out-count
-returns-then-out-count c =
-    let n = c.range_within-found.result in
+pub returns-in_err-lines : goal.returns-in_err-lines
+returns-in_err-lines c =
     record {
-      answer = within_short c.args.offsets.now c.args.query c.args.distance (length c.args.out.now) (told c.args.offsets.now c.args.query c.args.distance c.are_finite.ensures c.check_lines.result c.check_lines.ensures) c.in-Passed.is n.first (n.end - n.first) c.range_within-found.ensures.found c.if-out-count.true;
-      written = refl;
+      answer = within_refused c.args.offsets.now c.args.query c.args.distance (length c.args.out.now) c.are_finite.ensures _ _ c.in_err-lines.was c.from_residual.ensures.1 c.checked.ensures.answer;
+      written = within_kept _ c.from_residual.ensures.0 _ _;
     }
 
-pub write_outward-requires : goal.write_outward-requires
-write_outward-requires c =
-    let p = there c.args.offsets.now c.args.query c.args.distance c.are_finite.ensures c.check_lines.result c.check_lines.ensures c.in-Passed.is in
-    (p.0, and_left _ _ p.1, c.range_within-found.ensures.walk, c.if-out-count.false)
+-- the lines within reach of the list that was lent
+module _ (c : After-within-found) where
+  found_is : range c.within-found.result.first (c.within-found.result.end - c.within-found.result.first) ≡ lines_found c.args.offsets.now c.args.query c.args.distance
+  found_is = c.within-found.ensures.found.0.found ∙ ap (λ (l : List ℕ). lines_found l c.args.query c.args.distance) c.in_ok-lines.ensures.list
 
-pub overflow_cast-result : goal.overflow_cast-result
-overflow_cast-result c =
-    let p = there c.args.offsets.now c.args.query c.args.distance c.are_finite.ensures c.check_lines.result c.check_lines.ensures c.in-Passed.is in
-    omega (arith, p.0.most, c.range_within-found.ensures.walk.most)
+pub returns-then-out-count-clause-answer : goal.returns-then-out-count-clause-answer
+returns-then-out-count-clause-answer c =
+    let f = found_is (goal.at.returns-then-out-count-clause-answer c).After-within-found in
+    within_short c.args.offsets.now c.args.query c.args.distance (length c.args.out.now) c.are_finite.ensures c.in_ok-lines.ensures.answer _ _ f c.if-out-count.true
 
-pub returns-in-Refused : goal.returns-in-Refused
-returns-in-Refused c =
+pub returns : goal.returns
+returns c =
+    let f = found_is (goal.at.returns c).After-within-found in
+    let n = c.within-found.result.end - c.within-found.result.first in
+    let lent = c.within-found.ensures.lent in
     record {
-      answer = within_after c.args.offsets.now c.args.query c.args.distance (length c.args.out.now) (told c.args.offsets.now c.args.query c.args.distance c.are_finite.ensures c.check_lines.result c.check_lines.ensures) c.in-Refused.is;
-      written = refl;
-    }
-
-pub returns-in-RefusedAt : goal.returns-in-RefusedAt
-returns-in-RefusedAt c =
-    record {
-      answer = within_after c.args.offsets.now c.args.query c.args.distance (length c.args.out.now) (told c.args.offsets.now c.args.query c.args.distance c.are_finite.ensures c.check_lines.result c.check_lines.ensures) c.in-RefusedAt.is;
-      written = refl;
-    }
-
-pub returns-else-out-count : goal.returns-else-out-count
-returns-else-out-count c =
-    let n = c.range_within-found.result in
-    record {
-      answer = within_found c.args.offsets.now c.args.query c.args.distance (length c.args.out.now) (told c.args.offsets.now c.args.query c.args.distance c.are_finite.ensures c.check_lines.result c.check_lines.ensures) c.in-Passed.is n.first (n.end - n.first) c.range_within-found.ensures.found c.if-out-count.false;
-      written = c.write_outward.ensures
-          ∙ ap (λ (ps : List ℕ). nearest_first (pattern_values c.args.offsets.now) (pattern_value c.args.query) ps ++ drop (n.end - n.first) c.args.out.now) c.range_within-found.ensures.found;
+      answer = within_found c.args.offsets.now c.args.query c.args.distance (length c.args.out.now) c.are_finite.ensures c.in_ok-lines.ensures.answer _ _ f c.if-out-count.false;
+      written = c.write.ensures
+          ∙ ap (λ (ps : List ℕ). nearest_first (pattern_values c.within-found.result.lines.offsets.now) (pattern_value c.within-found.result.query) ps ++ drop n c.args.out.now) f
+          ∙ ap₂ (λ (l : List ℕ) (q : ℕ). nearest_first (pattern_values l) (pattern_value q) (lines_found c.args.offsets.now c.args.query c.args.distance) ++ drop n c.args.out.now) (lent.0 ∙ c.in_ok-lines.ensures.list) lent.1;
     }

@@ -1,6 +1,6 @@
 -- `units::places::answer_place` meets its contract.
 use Rattle.theory.proofs.Prelude.{[], ◌∷◌, ◌∙◌, ap, ◌≡◌, sym, refl}
-use Rattle.number.proofs.Prelude.{Format, gives, checked, passed, operand, answered, ends}
+use Rattle.number.proofs.Prelude.{Format, gives, checked, passed, operand, answered, stops}
 use Rattle.number.specs.declared.Number.{Number}
 use Rattle.units.specs.declared.places.Place.{Place}
 use Rattle.units.specs.declared.places.Place.TheVariants.{First, Last, Least}
@@ -15,13 +15,13 @@ by_number Last f x = refl
 by_number Least f x = refl
 
 pub place_number-requires : goal.place_number-requires
-place_number-requires c = operand (passed _ _ _ (sym c.enter.ensures ∙ c.in-Ready.is))
+place_number-requires c = operand (passed _ _ _ (sym c.enter.ensures ∙ c.in_ok-prepared.was))
 
-pub returns-in-Refused : goal.returns-in-Refused
-returns-in-Refused c = ends _ _ _ _ (sym c.enter.ensures ∙ c.in-Refused.is) ∙ by_number c.args.place _ _
+pub returns-in_err-prepared : goal.returns-in_err-prepared
+returns-in_err-prepared c = stops _ _ _ _ _ (sym c.enter.ensures ∙ c.in_err-prepared.was) c.from_residual.ensures.1 ∙ by_number c.args.place _ _
 
-pub returns-in-Ready : goal.returns-in-Ready
-returns-in-Ready c =
+pub returns : goal.returns
+returns c =
     let s = c.args in
-    ap gives c.place_number.ensures ∙ answered _ _ _ (λ (g : Format). gives (place_number s.place g s.x)) (sym c.enter.ensures ∙ c.in-Ready.is)
+    ap gives c.place_number.ensures ∙ answered _ _ _ (λ (g : Format). gives (place_number s.place g s.x)) (sym c.enter.ensures ∙ c.in_ok-prepared.was)
     ∙ by_number s.place _ _

@@ -1,28 +1,24 @@
--- `vectors::columns::are_columns` meets its contract: the columns from c on are columns exactly where all are.
-use Rattle.theory.proofs.Prelude.{arith, ℕ, suc, ◌+◌, ◌-◌, ◌≤◌, ◌<◌, ◌≡◌, refl, sym, ◌∙◌, true, List}
-use Rattle.theory.proofs.Tests.{and_failed, and_passed}
-use Rattle.theory.proofs.Prelude.{add-one}
+-- `vectors::columns::are_columns` meets its contract.
+use Rattle.theory.proofs.Prelude.{ℕ, suc, zero, ◌&&◌, Bool, true, false, List, ◌≡◌, ◌∙◌, refl, rules, add-one}
+use borrow.Author.Tests.{tests}
 use Rattle.theory.specs.Tests.{◌and◌}
-use Rattle.vectors.specs.Columns.{columns, is_column, are_columns}
+use Rattle.std.specs.List.{list_all, range_with_len}
+use Rattle.std.proofs.lemmas.Iterator.{YieldsList-from_range}
+use Rattle.std.proofs.lemmas.Iterator.Search.{all_from_yields_List}
+use Rattle.vectors.specs.Columns.{is_column, are_columns}
 use Rattle.vectors.proofs.columns.are_columns.Goals as goal
 
-module _ (row : List ℕ) (c : ℕ) where
-  next : c < columns → are_columns row c (columns - c) ≡ is_column row c and are_columns row (c + 1) (columns - (c + 1))
-  unfolding are_columns
-  next h = let e : columns - c ≡ suc (columns - (c + 1)) = omega arith in rw (e, add-one)
+both : (a b : Bool) → a && b ≡ a and b
+unfolding ◌and◌
+both true b = refl
+both false b = refl
 
-  none : columns ≤ c → are_columns row c (columns - c) ≡ true
-  unfolding are_columns
-  none h = let e : columns - c ≡ 0 = omega arith in rw e
-
-pub returns-then-not-is_column : goal.returns-then-not-is_column
-returns-then-not-is_column c = sym (next _ _ c.loop-c-test.true ∙ and_failed _ (sym c.is_column.ensures ∙ c.if-not-is_column.true)) ∙ c.loop-c.invariant.1
-
-pub loop-c-preserved : goal.loop-c-preserved
-loop-c-preserved c = (omega arith, sym (next _ _ c.loop-c-test.true ∙ and_passed _ (sym c.is_column.ensures ∙ c.if-not-is_column.false)) ∙ c.loop-c.invariant.1)
-
-pub loop-c-init : goal.loop-c-init
-loop-c-init c = (omega arith, refl)
+all_are : (row : List ℕ) (c n : ℕ) → list_all (is_column row) (range_with_len c n) ≡ are_columns row c n
+unfolding are_columns
+all_are row c zero = refl
+all_are row c (suc n) = rw (add-one, all_are row (suc c) n) (both (is_column row c) (are_columns row (suc c) n))
 
 pub returns : goal.returns
-returns c = sym (none _ _ c.loop-c-test.false) ∙ c.loop-c.invariant.1
+returns c =
+    all_from_yields_List {v = λ (x : ℕ). x} (is_column c.args.row.now) _ _ _ c.all.ensures.ran (YieldsList-from_range 0 16 16 refl refl) (λ x b q k. search (rules, tests))
+    ∙ all_are c.args.row.now 0 16

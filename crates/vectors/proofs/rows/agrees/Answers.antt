@@ -1,25 +1,30 @@
 -- `vectors::rows::agrees` meets its contract.
-use Rattle.theory.proofs.Prelude.{◌≡◌, sym, ap, ap₂, ◌∙◌}
+use Rattle.theory.proofs.Prelude.{ℕ, ◌≤◌, Bool, true, List, length, ◌≡◌, sym, ap, ap₂, ◌∙◌, le-leb, lt-leb}
 use Rattle.theory.proofs.Tests.{and_failed, and_passed}
-use Rattle.theory.proofs.Prelude.{le-leb, lt-leb}
-use Rattle.number.specs.Answers.{number_given}
-use Rattle.vectors.specs.Columns.{row_length}
+use Rattle.format.specs.Given.{given}
+use Rattle.vectors.specs.Columns.{columns, row_length, are_columns}
 use Rattle.vectors.specs.Rows.{row_answer, is_answer, says, agrees}
 use Rattle.vectors.proofs.rows.agrees.Goals as goal
 
-pub returns-in-Value : goal.returns-in-Value
-unfolding says agrees
-returns-in-Value c =
-    let well_formed : says c.args.row.now (row_answer c.args.row.now) ≡ agrees c.args.row.now = sym (and_passed _ (le-leb row_length _ c.if-row-lt-ROW_LENGTH.false) ∙ and_passed _ (sym c.are_columns.ensures ∙ c.if-not-are_columns.false)) in
-    c.is_answer.ensures ∙ ap (says _) (sym (ap number_given c.in-Value.is) ∙ c.answer_at.ensures) ∙ well_formed
+-- a row with its length and its columns agrees where its call answers what it says
+answered : (row : List ℕ) {t : Bool} → row_length ≤ length row → t ≡ are_columns row 0 columns → t ≡ true → says row (row_answer row) ≡ agrees row
+unfolding agrees
+answered row l e h = sym (and_passed _ (le-leb row_length _ l) ∙ and_passed _ (sym e ∙ h))
 
-pub returns-in-Refused : goal.returns-in-Refused
-unfolding says agrees
-returns-in-Refused c =
-    let well_formed : says c.args.row.now (row_answer c.args.row.now) ≡ agrees c.args.row.now = sym (and_passed _ (le-leb row_length _ c.if-row-lt-ROW_LENGTH.false) ∙ and_passed _ (sym c.are_columns.ensures ∙ c.if-not-are_columns.false)) in
-    c.is_answer-in-Refused.ensures ∙ ap₂ (is_answer _) c.refusal_number.ensures c.whole.ensures
-    ∙ ap (says _) (sym (ap number_given c.in-Refused.is) ∙ c.answer_at.ensures)
-    ∙ well_formed
+pub returns-in-Ok : goal.returns-in-Ok
+unfolding says
+returns-in-Ok c =
+    c.is_answer.ensures
+    ∙ ap (says _) (sym (ap given c.in-Ok.is) ∙ c.answer_at.ensures)
+    ∙ answered _ c.if-row-lt-ROW_LENGTH.false c.are_columns.ensures c.if-not-are_columns.false
+
+pub returns-in-Err : goal.returns-in-Err
+unfolding says
+returns-in-Err c =
+    c.is_answer-in-Err.ensures
+    ∙ ap₂ (is_answer _) c.from.ensures c.whole.ensures
+    ∙ ap (says _) (sym (ap given c.in-Err.is) ∙ c.answer_at.ensures)
+    ∙ answered _ c.if-row-lt-ROW_LENGTH.false c.are_columns.ensures c.if-not-are_columns.false
 
 pub returns-then-row-lt-ROW_LENGTH : goal.returns-then-row-lt-ROW_LENGTH
 unfolding agrees

@@ -1,10 +1,10 @@
 -- `vectors::rows::count` meets its contract: the rows so far and those that are left are those of the input.
-use Rattle.theory.proofs.Prelude.{◌-◌, ◌≡◌, length, drop}
+use Rattle.theory.proofs.Prelude.{◌≡◌, length}
+use Rattle.vectors.specs.Columns.{row_length}
 use Rattle.vectors.specs.Rows.{rows_in, counted}
 use Rattle.vectors.proofs.rows.count.Given as goal
 
-abbrev pub invariant-loop-start : goal.invariant-loop-start
-invariant-loop-start l = counted l.tally (drop l.start l.input) (rows_in (length l.input - l.start)) ≡ counted l.initial.tally l.input (rows_in (length l.input))
-
-abbrev pub decreases-loop-start : goal.decreases-loop-start
-decreases-loop-start l = length l.input - l.start
+abbrev pub invariant-loop-row : goal.invariant-loop-row
+invariant-loop-row l =
+    (l.row-iterator.size ≡ row_length)
+    × (counted l.tally l.row-iterator.rest.now (rows_in (length l.row-iterator.rest.now)) ≡ counted l.initial.tally l.input (rows_in (length l.input)))

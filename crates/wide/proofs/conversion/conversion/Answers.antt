@@ -6,12 +6,7 @@ use Rattle.wide.proofs.Conversions.{conversion_finishes}
 use Rattle.wide.proofs.conversion.conversion.Goals as goal
 
 pub returns-then-n-eq0 : goal.returns-then-n-eq0
-returns-then-n-eq0 c = rounds_zero (positional c.requires.0) c.args.direction c.args.negative _ (pow_pos c.requires.0.base_least c.args.down) (rw c.if-n-eq0.true (omega arith))
-
-pub conversion_cut-exact-requires : goal.conversion_cut-exact-requires
-conversion_cut-exact-requires c =
-    let few : c.args.up < 2 ^ 28 = ⊎_elim (λ z. absurd (omega (arith, z, c.if-n-eq0.false))) (λ l. l) c.requires.1 in
-    (c.requires.0, omega (arith, c.if-n-eq0.false), few, c.requires.2)
+returns-then-n-eq0 c = rw c.zero.ensures (rounds_zero (positional c.requires.0) c.args.direction c.args.negative _ (pow_pos c.requires.0.base_least c.args.down) (rw c.if-n-eq0.true (omega arith)))
 
 pub finish-requires : goal.finish-requires
 finish-requires c =

@@ -17,9 +17,3 @@ returns c =
     let a = c.args in
     ap (λ (l : Location). record { steps = a.division.quotient; place = a.division.place; location = l }) c.locate-location.ensures
     ∙ sym (quotient_cut (positional p.0) h_d v (omega (arith, p.3, p.0.bound_power)) (ended_least p.0 p.5 c.if-division-eq0.false))
-
-pub exact_cut-requires : goal.exact_cut-requires
-exact_cut-requires c = let p = c.requires in (p.0, p.3)
-
-pub locate-location-requires : goal.locate-location-requires
-locate-location-requires c = let p = c.requires in omega (arith, p.1, p.2)

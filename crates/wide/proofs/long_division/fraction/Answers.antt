@@ -5,9 +5,6 @@ use Rattle.wide.proofs.Sizes.{bits_size}
 use Rattle.wide.proofs.Finishes.{finishes}
 use Rattle.wide.proofs.long_division.fraction.Goals as goal
 
-pub cut_fraction-requires : goal.cut_fraction-requires
-cut_fraction-requires c = c.requires
-
 pub finish-requires : goal.finish-requires
 finish-requires c =
     let size : 1 ≤ c.args.d * c.args.scale.base ^ c.args.down = mul-pos c.requires.1 (pow_pos c.requires.0.base_least c.args.down) in

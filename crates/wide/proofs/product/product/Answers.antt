@@ -1,5 +1,5 @@
 -- `wide::product::product` meets its contract: the cut is that of the exact product.
-use Rattle.theory.proofs.Prelude.{ℕ, ◌≤◌, ◌<◌, ◌+◌, ◌^◌, ◌*◌, ◌∙◌, ap, ◌≡◌, arith}
+use Rattle.theory.proofs.Prelude.{ℕ, ◌≤◌, ◌+◌, ◌^◌, ◌*◌, ◌∙◌, ap, ◌≡◌, arith}
 use Rattle.rounding.specs.declared.Cut.{Cut}
 use Rattle.rounding.proofs.Prelude.{pow_pos, Scale, ScaledWithin, cut_of, positional, digits_most}
 use Rattle.rounding.specs.Digits.{Shifted}
@@ -14,7 +14,8 @@ pub returns-then-a-b : goal.returns-then-a-b
 returns-then-a-b c =
     let positive : 1 ≤ c.args.scale.base ^ c.args.down = pow_pos c.requires.0.base_least c.args.down in
     let a = c.args in
-    rounds_zero (positional c.requires.0) a.direction a.negative _ positive (omega (arith, ap (λ (n : ℕ). n * a.scale.base ^ a.up) (product_zero a.a a.b c.if-a-b.true)))
+    rw c.zero.ensures
+    (rounds_zero (positional c.requires.0) a.direction a.negative _ positive (omega (arith, ap (λ (n : ℕ). n * a.scale.base ^ a.up) (product_zero a.a a.b c.if-a-b.true))))
 
 -- both significands with all their digits
 record Brought (s : Scale) (a b m n down low : ℕ) : Type 0 where
@@ -72,15 +73,13 @@ finish-requires c =
 
 pub overflow_add-low : goal.overflow_add-low
 overflow_add-low c =
-    let low_fits : c.args.down + c.normalise-first.result.shift + c.normalise-second.result.shift < 2 ^ 30 = let p = c.requires in
-    omega (arith, p.4, c.normalise-first.ensures.within, c.normalise-second.ensures.within, digits_most p.0) in
-    omega (arith, low_fits)
+    let p = c.requires in
+    omega (arith, p.4, c.normalise-first.ensures.within, c.normalise-second.ensures.within, digits_most p.0)
 
 pub overflow_add-low-then-a-scale : goal.overflow_add-low-then-a-scale
 overflow_add-low-then-a-scale c =
-    let low_fits : c.args.down + c.normalise-first.result.shift + c.normalise-second.result.shift < 2 ^ 30 = let p = c.requires in
-    omega (arith, p.4, c.normalise-first.ensures.within, c.normalise-second.ensures.within, digits_most p.0) in
-    omega (arith, low_fits)
+    let p = c.requires in
+    omega (arith, p.4, c.normalise-first.ensures.within, c.normalise-second.ensures.within, digits_most p.0)
 
 pub returns : goal.returns
 returns c = c.finish.ensures _ _ (pow_pos c.requires.0.base_least c.args.down) (exact c.before)

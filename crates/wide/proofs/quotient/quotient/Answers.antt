@@ -9,7 +9,7 @@ use Rattle.wide.proofs.Sizes.{shifted_size}
 use Rattle.wide.proofs.Quotients.{quotient_exact, digits_of_law}
 use Rattle.wide.proofs.Finishes.{finishes, rounds_zero}
 use Rattle.wide.proofs.quotient.quotient.Goals as goal
-use Rattle.wide.proofs.quotient.quotient.Goals.{Joined-m-scale, After-quotient_cut-counted, then-m-scale, else-m-scale}
+use Rattle.wide.proofs.quotient.quotient.Goals.{Joined-m-scale, After-quotient_cut-digits, then-m-scale, else-m-scale}
 
 -- both significands with all their digits: the shift of each goes to the other side
 record Brought (s : Scale) (m n a b up down high low : ℕ) : Type 0 where
@@ -30,7 +30,7 @@ module _ {limit : ℕ} {s : Scale} (h : ScaledWithin limit s) {m n a b up down h
 pub returns-then-m-eq0 : goal.returns-then-m-eq0
 returns-then-m-eq0 c =
     let positive : 1 ≤ c.args.n * c.args.scale.base ^ c.args.down = mul-pos c.requires.2 (pow_pos c.requires.0.base_least c.args.down) in (
-      rounds_zero (positional c.requires.0) c.args.direction c.args.negative _ positive (rw c.if-m-eq0.true (omega arith)),
+      rw c.zero-rounding.ensures (rounds_zero (positional c.requires.0) c.args.direction c.args.negative _ positive (rw c.if-m-eq0.true (omega arith))),
       rw (eq-eqb c.args.m 0 c.if-m-eq0.true),
     )
 
@@ -66,8 +66,8 @@ brought c =
           }
     ]
 
-pub quotient_cut-counted-requires : goal.quotient_cut-counted-requires
-quotient_cut-counted-requires c =
+pub quotient_cut-digits-requires : goal.quotient_cut-digits-requires
+quotient_cut-digits-requires c =
     let p = c.requires in
     let b = brought c in (
       p.0,
@@ -78,17 +78,17 @@ quotient_cut-counted-requires c =
     )
 
 -- the cut is that of the exact quotient
-exact : (c : After-quotient_cut-counted) → let a = c.args in
-    c.quotient_cut-counted.result.cut ≡ cut_of a.scale.base a.scale.digits (a.m * a.scale.base ^ a.up) (a.n * a.scale.base ^ a.down)
-exact c = let p = c.requires in exact_at p.0 p.2 (brought c.before) c.quotient_cut-counted.ensures.0
+exact : (c : After-quotient_cut-digits) → let a = c.args in
+    c.quotient_cut-digits.result.0 ≡ cut_of a.scale.base a.scale.digits (a.m * a.scale.base ^ a.up) (a.n * a.scale.base ^ a.down)
+exact c = let p = c.requires in exact_at p.0 p.2 (brought c.before) c.quotient_cut-digits.ensures.0
 
 -- and its digits are those of the operands
-counted : (c : After-quotient_cut-counted) → let a = c.args in
-    c.quotient_cut-counted.result.digits ≡ digits_of a.scale.base a.scale.digits a.m a.n a.up a.down
-counted c = let p = c.requires in digits_at p.0 p.2 (brought c.before) (omega (arith, c.if-m-eq0.false)) c.quotient_cut-counted.ensures.1
+counted : (c : After-quotient_cut-digits) → let a = c.args in
+    c.quotient_cut-digits.result.1 ≡ digits_of a.scale.base a.scale.digits a.m a.n a.up a.down
+counted c = let p = c.requires in digits_at p.0 p.2 (brought c.before) (omega (arith, c.if-m-eq0.false)) c.quotient_cut-digits.ensures.1
 
-pub finish-requires : goal.finish-requires
-finish-requires c =
+pub finish-rounding-requires : goal.finish-rounding-requires
+finish-rounding-requires c =
     let p = c.requires in
     finishes p.0 _ _ (mul-pos p.2 (pow_pos p.0.base_least c.args.down)) (exact c.before) (2 ^ 30) (omega arith)
     (shifted_size (positional p.0) (omega (arith, p.1, p.0.bound_power)) (omega (arith, p.4)))
@@ -97,4 +97,4 @@ pub returns : goal.returns
 returns c =
     let p = c.requires in
     let k = c.before.before in
-    (c.finish.ensures _ _ (mul-pos p.2 (pow_pos p.0.base_least c.args.down)) (exact k), counted k)
+    (c.finish-rounding.ensures _ _ (mul-pos p.2 (pow_pos p.0.base_least c.args.down)) (exact k), counted k)

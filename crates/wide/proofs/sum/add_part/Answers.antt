@@ -1,13 +1,9 @@
 -- `wide::sum::add_part` meets its contract: where the signs differ, a rest is taken from one more unit.
 use Rattle.theory.proofs.Prelude.{ℕ, ◌≤◌, ◌<◌, ◌+◌, ◌*◌, ◌-◌, true, false, Bool, not, inl, inr, ◌⊎◌, ◌≢◌, ◌∙◌, ap, ◌≡◌, sym, refl, mul-le-mul_left, eqb, eq-eqb, ne_eqb, bool_byte, arith}
 use Rattle.theory.proofs.Tests.{never}
-use Rattle.two_words.proofs.Words.{bit_most}
 use Rattle.wide.specs.Sum.{InUnits}
 use Rattle.wide.proofs.sum.add_part.Goals as goal
 use Rattle.wide.proofs.sum.add_part.Goals.{then-remainder-eq0, then-differ-2, then-differ, else-remainder-eq0, else-differ-2, else-differ}
-
-pub overflow_add-upper : goal.overflow_add-upper
-overflow_add-upper c = omega (arith, bit_most (not (eqb c.args.part.remainder 0)), c.requires.1)
 
 module _ (m q : ℕ) {r unit given taken rest : ℕ} {t : Bool} (l : r < unit) where
   more : t ≡ false → given ≡ m + q → taken ≡ 0 → rest ≡ r → InUnits m (q * unit + r) unit t given taken rest

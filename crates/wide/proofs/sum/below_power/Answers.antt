@@ -16,6 +16,3 @@ returns c =
     let h = c.requires.0 in
     let bound : c.args.scale.bound ≡ c.args.scale.base ^ (c.args.gap - 1) = h.bound_power ∙ power_at c.args.scale.base (omega arith) in
     c.locate.ensures ∙ ap (λ (t : ℕ). located (t - c.args.m) t) bound
-
-pub locate-requires : goal.locate-requires
-locate-requires c = (omega (arith, c.requires.0.bound_most, c.requires.1, c.requires.2), omega (arith, c.requires.2))

@@ -1,5 +1,5 @@
 -- `wide::sum::far_cut` meets its contract: the three cases of a small summand.
-use Rattle.theory.proofs.Prelude.{ℕ, ◌≤◌, ◌<◌, true, false, Bool, cond, not, ◌&&◌, Bool·beq, ◌≡◌, sym, refl, arith, leb, bool_byte, leb-true, leb-false}
+use Rattle.theory.proofs.Prelude.{ℕ, ◌≤◌, ◌<◌, true, false, Bool, cond, not, ◌&&◌, Bool·beq, ◌≡◌, sym, refl, arith, leb, leb-true, leb-false}
 use Rattle.theory.proofs.Tests.{never}
 use Rattle.rounding.proofs.Prelude.{Location, Below, Above}
 use Rattle.wide.proofs.FarSums.{far_none, far_power, far_selected}
@@ -23,23 +23,12 @@ kept : (t : Bool) {l : Location} → not t ≡ false → l ≡ Below → l ≡ c
 kept true h e = e
 kept false h e = absurd (never h)
 
-step_fits : (t : Bool) (m least : ℕ) → (t ≡ false → least < m) → bool_byte (not t) ≤ m
-step_fits true m least h = omega arith
-step_fits false m least h = omega (arith, h refl)
-
 pub returns-then-differ-m : goal.returns-then-differ-m
 returns-then-differ-m c =
     let some : 1 ≤ c.args.y.significand = omega (arith, c.if-y-eq0.false) in
     let p = c.requires in
     let b = both (Bool·beq c.args.x.negative c.args.y.negative) c.args.x.significand c.args.scale.least c.if-differ-m.true in
     far_power p.0 p.1 p.2 c.args.gap p.3 p.4 some b.0 b.1 c.below_power.ensures
-
-pub overflow_sub-result-2 : goal.overflow_sub-result-2
-overflow_sub-result-2 c =
-    let above : let s = c.args in Bool·beq s.x.negative s.y.negative ≡ false → s.scale.least < s.x.significand = let s = c.args in
-    not_both (Bool·beq s.x.negative s.y.negative) s.x.significand s.scale.least c.if-differ-m.false in
-    let s = c.args in
-    step_fits (Bool·beq s.x.negative s.y.negative) s.x.significand s.scale.least above
 
 pub returns : goal.returns
 returns c =
@@ -53,8 +42,3 @@ returns c =
 
 pub returns-then-y-eq0 : goal.returns-then-y-eq0
 returns-then-y-eq0 c = far_none c.requires.0 c.args.y c.requires.1 c.if-y-eq0.true
-
-pub below_power-requires : goal.below_power-requires
-below_power-requires c =
-    let some : 1 ≤ c.args.y.significand = omega (arith, c.if-y-eq0.false) in
-    let p = c.requires in (p.0, some, omega (arith, p.2.canonical.small, p.0.bound_power), p.4)

@@ -1,9 +1,13 @@
 -- `wide::sum::near_cut` meets its contract: the steps have all their digits, or one more, which is dropped.
 use Rattle.theory.proofs.Prelude.{ℕ, ◌≤◌, ◌<◌, ◌+◌, ◌^◌, ◌*◌, ◌∙◌, ap, ap₂, ◌≡◌, sym, div-add-mod', mod-lt, div-lt_iff_lt-mul, le-div_iff_mul-le, mul-le-mul_right, arith}
 use native.Mathlib.Nat.{add_assoc}
-use Rattle.rounding.proofs.Prelude.{Location, Unit, cut_of, power_one, unit_next, unit_most, unit_pos, least_bound, digits_most}
+use Rattle.rounding.proofs.Prelude.{Scale, Scaled, Location, Unit, cut_of, power_one, unit_next, unit_most, unit_pos, least_bound, digits_most}
 use Rattle.wide.proofs.Sums.{unit_cut}
 use Rattle.wide.proofs.sum.near_cut.Goals as goal
+
+-- the base itself, by which the digit too many is divided off
+base_unit : {s : Scale} → Scaled s → Unit s s.base 1
+base_unit {s} h = record { is = sym (power_one s.base); most = h.digits_least }
 
 pub returns-then-steps-scale : goal.returns-then-steps-scale
 returns-then-steps-scale c =
@@ -15,18 +19,16 @@ returns-then-steps-scale c =
 pub locate_twice-location-requires : goal.locate_twice-location-requires
 locate_twice-location-requires c =
     let unit_word : (1 ≤ c.args.unit) × (c.args.unit ≤ 2 ^ 63) = let p = c.requires in (unit_pos p.0 p.1, omega (arith, unit_most p.0 p.1, p.0.bound_most)) in
-    let base_unit : Unit c.args.scale c.args.scale.base 1 = record { is = sym (power_one c.args.scale.base); most = c.requires.0.digits_least } in
-    let rest : c.split-parts.result.remainder < c.args.scale.base = omega (arith, c.split-parts.ensures.1, mod-lt c.args.steps (unit_pos c.requires.0 base_unit)) in
-    (rest, omega (arith, unit_most c.requires.0 base_unit, c.requires.0.bound_most), c.requires.4, unit_word.1)
+    let rest : c.split-parts.result.remainder < c.args.scale.base = omega (arith, c.split-parts.ensures.1, mod-lt c.args.steps (unit_pos c.requires.0 (base_unit c.requires.0))) in
+    (rest, omega (arith, unit_most c.requires.0 (base_unit c.requires.0), c.requires.0.bound_most), c.requires.4, unit_word.1)
 
 pub returns : goal.returns
 returns c =
-    let base_unit : Unit c.args.scale c.args.scale.base 1 = record { is = sym (power_one c.args.scale.base); most = c.requires.0.digits_least } in
-    let rest : c.split-parts.result.remainder < c.args.scale.base = omega (arith, c.split-parts.ensures.1, mod-lt c.args.steps (unit_pos c.requires.0 base_unit)) in
+    let rest : c.split-parts.result.remainder < c.args.scale.base = omega (arith, c.split-parts.ensures.1, mod-lt c.args.steps (unit_pos c.requires.0 (base_unit c.requires.0))) in
     let a = c.args in
     let p = c.requires in
     let β = a.scale.base in
-    let some : 1 ≤ β = unit_pos p.0 base_unit in
+    let some : 1 ≤ β = unit_pos p.0 (base_unit p.0) in
     let q = c.split-parts.result.quotient in
     let r = c.split-parts.result.remainder in
     let whole : q * β + r ≡ a.steps = ap₂ (λ (x y : ℕ). x * β + y) c.split-parts.ensures.0 c.split-parts.ensures.1 ∙ div-add-mod' a.steps β in
@@ -44,21 +46,14 @@ locate-location-requires c =
     (omega (arith, unit_word.1, c.requires.4), unit_word.0)
 
 pub overflow_add-result : goal.overflow_add-result
-overflow_add-result c =
-    let place_fits : c.args.place + c.args.gap + 1 < 2 ^ 32 = let p = c.requires in omega (arith, p.1.most, digits_most p.0, p.5) in
-    omega (arith, place_fits)
+overflow_add-result c = let p = c.requires in omega (arith, p.1.most, digits_most p.0, p.5)
 
 pub split-parts-requires : goal.split-parts-requires
 split-parts-requires c =
-    let base_unit : Unit c.args.scale c.args.scale.base 1 = record { is = sym (power_one c.args.scale.base); most = c.requires.0.digits_least } in
-    (c.requires.0, base_unit)
+    (c.requires.0, base_unit c.requires.0)
 
 pub overflow_add-result-2 : goal.overflow_add-result-2
-overflow_add-result-2 c =
-    let place_fits : c.args.place + c.args.gap + 1 < 2 ^ 32 = let p = c.requires in omega (arith, p.1.most, digits_most p.0, p.5) in
-    omega (arith, place_fits)
+overflow_add-result-2 c = let p = c.requires in omega (arith, p.1.most, digits_most p.0, p.5)
 
 pub overflow_add-result-3 : goal.overflow_add-result-3
-overflow_add-result-3 c =
-    let place_fits : c.args.place + c.args.gap + 1 < 2 ^ 32 = let p = c.requires in omega (arith, p.1.most, digits_most p.0, p.5) in
-    omega (arith, place_fits)
+overflow_add-result-3 c = let p = c.requires in omega (arith, p.1.most, digits_most p.0, p.5)

@@ -1,8 +1,0 @@
--- `c_api::numbers::zurkeb_product` meets its contract.
-use Rattle.theory.proofs.Prelude.{◌∙◌, ap, ap₂}
-use Rattle.arithmetic.specs.Marked.{product_answer}
-use Rattle.c_api.specs.Answers.{rounded_out}
-use Rattle.c_api.proofs.numbers.zurkeb_product.Goals as goal
-
-pub returns : goal.returns
-returns c = c.rounded_out.ensures ∙ ap rounded_out (c.product.ensures ∙ ap₂ (product_answer _ _) c.number_in.ensures c.number_in-2.ensures)
