@@ -68,6 +68,9 @@ module _ {n b : ℕ} (h : Digits 2 n b) (l : n < 2 ^ 63) where
   lower : 10 ^ guessed b ≤ 5 * 2 ^ b
   lower = leb-true _ _ (and_right _ _ (and_right _ _ t))
 
+  pub guess_few : guessed b ≤ 18
+  guess_few = leb-true _ _ (and_left _ _ t)
+
   -- one more than the guess
   pub guess_more : 10 ^ guessed b ≤ n → Digits 10 n (guessed b + 1)
   guess_more k =

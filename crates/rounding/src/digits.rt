@@ -59,6 +59,15 @@ pub fn bit_count(n: u64) -> u32
     n.ilog2() + 1
 }
 
+// The digits of `n` in base 10, guessed from its bits (1233 / 4096 is just above log 2): the guess, or one more.
+fn decimal_count(n: u64) -> u32
+    requires { (1 ≤ n) × (n < 2 ^ 63) }
+    ensures { Digits 10 n result }
+{
+    let guess = bit_count(n) * 1233 / 4096;
+    guess + (decimal_power(guess) <= n) as u32
+}
+
 // The digits of a significand.
 fn digit_count(scale: Scale, n: Significand) -> u32
     requires { Scaled scale × (1 ≤ n) × (n < scale.bound) }
@@ -71,7 +80,7 @@ fn digit_count(scale: Scale, n: Significand) -> u32
         return bit_count(n);
     }
     if scale.base == 10 {
-        return n.ilog10() + 1;
+        return decimal_count(n);
     }
     // Kept as a loop: `n.ilog(base)` divides where this multiplies, and costs a conversion in every base 6 instructions more (211 in place of 205 in base 2).
     let base = scale.base as Significand;

@@ -3,6 +3,8 @@ use Rattle.theory.proofs.Prelude.{ℕ, ◌≤◌, ◌<◌, ◌+◌, ◌^◌, ◌
 use Rattle.rounding.proofs.Prelude.{pow-add, pow_mono, power_next, Scale, Scaled, least_bound}
 use Rattle.wide.specs.declared.long_division.Division.{Division}
 use Rattle.wide.specs.Division.{remains, digit, digits, Taken, Ended, after, NoEnd, Divided, all_digits, lowest_place, no_rest}
+-- a quotient and what remains, from what they make
+pub use Rattle.two_words.proofs.Words.{quotient_made}
 
 -- ---- the divisor above n
 pub align_next : {w : ℕ} (β d t : ℕ) → w ≡ d * β ^ t → w * β ≡ d * β ^ (t + 1)

@@ -11,8 +11,8 @@ found c =
     let p = c.requires in
     let h = p.0 in
     elim c.if-not-within.branch [
-      | then-not-within w ↦ beyond_at w.divisor-is w.beyond-is (beyond_unit h (bound_unit h) (omega (arith, less_left c.less-within.ensures c.product.ensures w.if-not-within.true)) p.2)
-      | else-not-within w ↦ beyond_at w.divisor-is w.beyond-is (beyond_unit h (least_unit h) p.1 (less_taken c.less-within.ensures c.product.ensures w.if-not-within.false))
+      | then-not-within w ↦ beyond_at w.divisor-is w.beyond-is (beyond_unit h (bound_unit h) (omega (arith, less_left c.less-within.ensures c.product.ensures.value w.if-not-within.true)) p.2)
+      | else-not-within w ↦ beyond_at w.divisor-is w.beyond-is (beyond_unit h (least_unit h) p.1 (less_taken c.less-within.ensures c.product.ensures.value w.if-not-within.false))
     ]
 
 least : (c : Joined-not-within) → c.args.scale.digits ≤ c.if-not-within.beyond + 1

@@ -7,11 +7,11 @@ use Rattle.wide.proofs.product.product_cut.Goals as goal
 
 pub returns-then-up-scale : goal.returns-then-up-scale
 returns-then-up-scale c =
-    let small : amount c.product-n.result < c.args.scale.bound * c.args.scale.bound = let p = c.requires in omega (arith, c.product-n.ensures, product_small p.1.most p.2.most) in
+    let small : amount c.product-n.result < c.args.scale.bound * c.args.scale.bound = let p = c.requires in omega (arith, c.product-n.ensures.value, product_small p.1.most p.2.most) in
     let exact : let a = c.args in
     cut_of a.scale.base a.scale.digits (amount c.product-n.result * a.scale.base ^ a.up) (a.scale.base ^ a.down)
     ≡ cut_of a.scale.base a.scale.digits (a.a * a.b * a.scale.base ^ a.up) (a.scale.base ^ a.down) = let a = c.args in
-    ap (λ (n : ℕ). cut_of a.scale.base a.scale.digits (n * a.scale.base ^ a.up) (a.scale.base ^ a.down)) c.product-n.ensures in
+    ap (λ (n : ℕ). cut_of a.scale.base a.scale.digits (n * a.scale.base ^ a.up) (a.scale.base ^ a.down)) c.product-n.ensures.value in
     let a = c.args in
     let h = c.requires.0 in
     let β = a.scale.base in

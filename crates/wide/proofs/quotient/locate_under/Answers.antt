@@ -19,18 +19,18 @@ returns-then-e-gt1 c = sym (under_below c.requires.0 c.requires.1 c.requires.2 c
 pub returns-then-less : goal.returns-then-less
 returns-then-less c =
     let p = c.requires in
-    let e = whole c.args.scale.base c.args.b p.3 c.if-e-gt1.false c.product-whole.ensures in
+    let e = whole c.args.scale.base c.args.b p.3 c.if-e-gt1.false c.product-whole.ensures.value in
     sym (located_below _ _ (some p.0 p.1) (omega (arith, ltb-true _ _ (sym c.less.ensures ∙ c.if-less.true), e)))
 
 pub returns-then-less-2 : goal.returns-then-less-2
 returns-then-less-2 c =
-    let e = whole c.args.scale.base c.args.b c.requires.3 c.if-e-gt1.false c.product-whole.ensures in
+    let e = whole c.args.scale.base c.args.b c.requires.3 c.if-e-gt1.false c.product-whole.ensures.value in
     sym (located_above _ _ (omega (arith, ltb-true _ _ (sym c.less-2.ensures ∙ c.if-less-2.true), e)))
 
 pub returns-else-less-2 : goal.returns-else-less-2
 returns-else-less-2 c =
     let p = c.requires in
-    let e = whole c.args.scale.base c.args.b p.3 c.if-e-gt1.false c.product-whole.ensures in
+    let e = whole c.args.scale.base c.args.b p.3 c.if-e-gt1.false c.product-whole.ensures.value in
     let least = ltb-false _ _ (sym c.less.ensures ∙ c.if-less.false) in
     let most = ltb-false _ _ (sym c.less-2.ensures ∙ c.if-less-2.false) in
     sym (located_half _ _ (some p.0 p.1) (omega (arith, least, most, e)))
