@@ -83,6 +83,6 @@ pub fn product(format: Format, direction: u32, a: Number, b: Number) -> Result<R
 {
     let prepared = prepare(format)?;
     let direction = Direction::try_from(direction)?;
-    let prepared = with_number(with_number(prepared, b)?, a)?;
+    let prepared = with_number(with_number(Ok(prepared), b), a)?;
     marked_product(prepared, direction, a, b)
 }

@@ -102,6 +102,6 @@ pub fn quotient(
 {
     let prepared = prepare(format)?;
     let direction = Direction::try_from(direction)?;
-    let prepared = with_number(with_number(prepared, b)?, a)?;
+    let prepared = with_number(with_number(Ok(prepared), b), a)?;
     counted_quotient(prepared, direction, a, b)
 }

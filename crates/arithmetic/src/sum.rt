@@ -130,7 +130,7 @@ pub fn sum(format: Format, direction: u32, a: Number, b: Number) -> Result<Round
 {
     let prepared = prepare(format)?;
     let direction = Direction::try_from(direction)?;
-    let prepared = with_number(with_number(prepared, b)?, a)?;
+    let prepared = with_number(with_number(Ok(prepared), b), a)?;
     marked_sum(prepared, direction, a, b)
 }
 
@@ -140,6 +140,6 @@ pub fn difference(format: Format, direction: u32, a: Number, b: Number) -> Resul
 {
     let prepared = prepare(format)?;
     let direction = Direction::try_from(direction)?;
-    let prepared = with_number(with_number(prepared, b)?, a)?;
+    let prepared = with_number(with_number(Ok(prepared), b), a)?;
     marked_difference(prepared, direction, a, b)
 }

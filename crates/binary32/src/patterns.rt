@@ -74,7 +74,7 @@ pub fn pattern_of(x: Number) -> u32
 pub fn write_pattern(x: Number) -> Result<u32, Refusal>
     ensures { given result ≡ pattern_written x }
 {
-    with_number(prepared_binary32(), x)?;
+    with_number(Ok(prepared_binary32()), x)?;
     Ok(pattern_of(x))
 }
 

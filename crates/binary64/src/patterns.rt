@@ -80,6 +80,6 @@ fn pattern_of(x: Number) -> u64
 pub fn write_binary64(x: Number) -> Result<u64, Refusal>
     ensures { given result ≡ binary64_written x }
 {
-    with_number(prepared_binary64(), x)?;
+    with_number(Ok(prepared_binary64()), x)?;
     Ok(pattern_of(x))
 }

@@ -50,6 +50,6 @@ fn pattern_of(x: Number) -> u32
 pub fn write_decimal32(x: Number) -> Result<u32, Refusal>
     ensures { given result ≡ decimal32_written x }
 {
-    with_number(prepared_decimal32(), x)?;
+    with_number(Ok(prepared_decimal32()), x)?;
     Ok(pattern_of(x))
 }

@@ -58,8 +58,8 @@ fn enter_check(
 ) -> Result<Prepared, Refusal>
     ensures { result ≡ entered format [] (a ∷ b ∷ x ∷ z ∷ y ∷ []) }
 {
-    let three = with_number(enter_two(format, z, y)?, x)?;
-    with_number(with_number(three, b)?, a)
+    let three = with_number(enter_two(format, z, y), x);
+    with_number(with_number(three, b), a)
 }
 
 // Are x, z and y a triple?

@@ -49,7 +49,7 @@ pub fn distance(from: i32, to: i32) -> u32
     requires { exponents_admitted from to ≡ true }
     ensures { result ≡ nat_abs (to -ℤ from) }
 {
-    to.abs_diff(from)
+    (to - from) as u32
 }
 
 // The format with its powers and its highest place. Refuses 1.

@@ -2,7 +2,7 @@
 -- number changes it.
 use Rattle.theory.proofs.Prelude.{ℕ, true, false, Bool, [], ◌∷◌, List, ◌∙◌, ap, ◌≡◌, sym, refl, arith}
 use Rattle.theory.proofs.Words.{◌and◌, unless, all}
-use Rattle.theory.proofs.Tests.{and_left, and_right, and_made, unless_passed}
+use Rattle.theory.proofs.Tests.{and_left, and_right, and_made, unless_passed, unless_failed}
 use Rattle.format.specs.declared.Format.{Format}
 use Rattle.format.specs.declared.Prepared.{Prepared}
 use Rattle.std.specs.Prelude.{Result, Ok, Err, IsErrAnd}
@@ -20,7 +20,7 @@ use Rattle.format.specs.Directions.{is_direction, direction}
 use Rattle.format.proofs.Formats.{Admitted, admits, admitted_made}
 use Rattle.number.specs.declared.Number.{Number}
 use Rattle.number.specs.Numbers.{member}
-use Rattle.number.specs.Checks.{checked, Usable, Operand, Operands, Checks, not_admitted, no_direction, not_member, all_passed, member_of, entered, beside, directed}
+use Rattle.number.specs.Checks.{checked, Usable, Operand, Operands, Checks, not_admitted, no_direction, not_member, all_passed, further, member_of, entered, beside, directed}
 use Rattle.number.proofs.Membership.{Member, member_made, member_prepared, usable, prepared_format, prepared_member}
 
 pub record Passed (f : Format) (directions : List ℕ) (numbers : List Number) (q : Prepared) : Type 0 where
@@ -161,7 +161,18 @@ pub one_checked : {f : Format} {x : Number} → Admitted f → Member f x → {A
 unfolding all
 one_checked {f} {x} a i {A} {g} = checked_passed f [] (x ∷ []) g (admitted_made a) refl (and_made (member_made x a i) refl)
 
--- ---- one check more: what the checks before refuse is refused, what they let on is examined
+-- ---- one check more, after what is known of those before
+module _ (refusal : Refusal) (test : Prepared → Bool) where
+  pub further_stands : {before : Result Prepared Refusal} {why : Refusal} → before ≡ Err why → Err why ≡ further refusal test before
+  further_stands h = sym (ap (further refusal test) h)
+
+  pub further_fails : {before : Result Prepared Refusal} {q : Prepared} → before ≡ Ok q → test q ≡ false → Err refusal ≡ further refusal test before
+  further_fails h e = sym (ap (further refusal test) h ∙ unless_failed _ _ e)
+
+  pub further_passes : {before : Result Prepared Refusal} {q : Prepared} → before ≡ Ok q → test q ≡ true → Ok q ≡ further refusal test before
+  further_passes h e = sym (ap (further refusal test) h ∙ unless_passed _ _ e)
+
+-- what the checks before refuse is refused, what they let on is examined
 module _ (p : Prepared) where
   next_third : {q : Prepared} (a b c u : Bool) → outcome p a b c ≡ Ok q → unless u (Err NumberNotInFormat) (Ok q) ≡ outcome p a b (u and c)
   unfolding unless ◌and◌
@@ -191,6 +202,12 @@ module _ (f : Format) (directions : List ℕ) (numbers : List Number) (x : Numbe
       let same : member_of q x ≡ member f x = ap (λ (k : Prepared). member_of k x) p.is ∙ member_prepared x (admits f p.format) in
       ap (λ (t : Bool). unless t (Err NumberNotInFormat) (Ok q)) same
       ∙ next_third (prepared_of f) (admitted f) (all is_direction directions) (all (member f) numbers) (member f x) h
+
+  -- in place of the checks before, what is known of them
+  pub number_after : {before : Result Prepared Refusal} → before ≡ entered f directions numbers
+      → further NumberNotInFormat (λ (q : Prepared). member_of q x) before ≡ entered f directions (x ∷ numbers)
+  number_after {before = Ok q} h = number_goes (sym h)
+  number_after {before = Err why} h = number_stands (sym h)
 
 -- the format by itself
 pub prepared_entered : (f : Format) → preparation f ≡ entered f [] []
@@ -251,14 +268,10 @@ pub one_direction : (f : Format) (d : ℕ) {p : Result Prepared Refusal} {q : Pr
     → p ≡ preparation f → p ≡ Ok q → r ≡ direction_read d → r ≡ Ok k → entered f (d ∷ []) [] ≡ Ok q
 one_direction f d h k l m = sym (direction_goes f [] d (sym (prepared_entered f) ∙ sym h ∙ k) (sym l ∙ m))
 
-module _ (f : Format) (directions : List ℕ) (a b : Number) {q : Prepared} {r : Result Prepared Refusal} (h : entered f directions [] ≡ Ok q)
-    (e : r ≡ unless (member_of q b) (Err NumberNotInFormat) (Ok q)) where
-  pub second_fails : {why : Refusal} → r ≡ Err why → entered f directions (a ∷ b ∷ []) ≡ Err why
-  second_fails k = sym (number_stands f directions (b ∷ []) a (sym (number_goes f directions [] b h) ∙ sym e ∙ k))
-
-  pub both_read : {p : Prepared} {s : Result Prepared Refusal} → r ≡ Ok p → s ≡ unless (member_of p a) (Err NumberNotInFormat) (Ok p)
-      → entered f directions (a ∷ b ∷ []) ≡ s
-  both_read k l = sym (l ∙ number_goes f directions (b ∷ []) a (sym (number_goes f directions [] b h) ∙ sym e ∙ k))
+pub both_read : (f : Format) (directions : List ℕ) (a b : Number) {q : Prepared} {r s : Result Prepared Refusal} → entered f directions [] ≡ Ok q
+    → r ≡ further NumberNotInFormat (λ (p : Prepared). member_of p b) (Ok q) → s ≡ further NumberNotInFormat (λ (p : Prepared). member_of p a) r
+    → entered f directions (a ∷ b ∷ []) ≡ s
+both_read f directions a b h e k = sym (k ∙ number_after f directions (b ∷ []) a (e ∙ number_after f directions [] b (sym h)))
 
 -- what an operation gives in a format and a direction that passed, the call gives
 pub operation_answers : (f : Format) (d : ℕ) (numbers : List Number) {A : Type 0} (operation : Format → Direction → Given A) {q : Prepared} {r : Result Direction NoDirection} {k : Direction}

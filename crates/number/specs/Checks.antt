@@ -29,6 +29,11 @@ pub data Checks {A : Type 0} (f : Format) (directions : List ℕ) (numbers : Lis
   all_passed : admitted f ≡ true → all is_direction directions ≡ true → all (member f) numbers ≡ true → Checks f directions numbers go_on go_on
 
 -- ---- for inner functions: the checks as the code makes them, one after the other
+-- one check more: the refusal that stands, or this one unless the prepared format passes
+abbrev pub further : Refusal → (Prepared → Bool) → Result Prepared Refusal → Result Prepared Refusal
+further refusal test (Err why) = Err why
+further refusal test (Ok q) = unless (test q) (Err refusal) (Ok q)
+
 -- x is in the format that was prepared
 unfoldable pub member_of : Prepared → Number → Bool
 member_of q x =

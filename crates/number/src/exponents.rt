@@ -37,5 +37,5 @@ pub fn below_zero(e: i32) -> u32
     requires { exponents_admitted e e ≡ true }
     ensures { result ≡ below_zero e }
 {
-    e.min(0).unsigned_abs()
+    if e < 0 { -e as u32 } else { 0 }
 }

@@ -63,7 +63,7 @@ fn enter_directed_number(
     ensures { result ≡ directed format direction (x ∷ []) }
 {
     let (prepared, direction) = enter_directed(format, direction)?;
-    let prepared = with_number(prepared, x)?;
+    let prepared = with_number(Ok(prepared), x)?;
     Ok((prepared, direction))
 }
 

@@ -1,6 +1,6 @@
 -- `arithmetic::product::product` meets its contract.
 use Rattle.theory.proofs.Prelude.{◌∙◌}
-use Rattle.number.proofs.CheckLaws.{passed, operands, stops, no_format, not_a_direction, one_direction, second_fails, both_read, operation_answers}
+use Rattle.number.proofs.CheckLaws.{passed, operands, stops, no_format, not_a_direction, one_direction, both_read, operation_answers}
 use Rattle.arithmetic.specs.Marked.{marked_product, product_answer}
 use Rattle.arithmetic.proofs.Prelude.{Direction, Format}
 use Rattle.arithmetic.proofs.product.product.Goals as goal
@@ -14,23 +14,17 @@ unfolding product_answer
 returns-in_err-direction c =
     stops _ _ _ _ _ (not_a_direction _ _ _ _ c.prepare.ensures c.in_ok-prepared.was c.try_from.ensures c.in_err-direction.was) c.from_residual-in_err-direction.ensures.1
 
-pub returns-in_err-with_number : goal.returns-in_err-with_number
-unfolding product_answer
-returns-in_err-with_number c =
-    let read = one_direction _ _ c.prepare.ensures c.in_ok-prepared.was c.try_from.ensures c.in_ok-direction.was in
-    stops _ _ _ _ _ (second_fails _ _ c.args.a c.args.b read c.with_number.ensures c.in_err-with_number.was) c.from_residual-in_err-with_number.ensures.1
-
 pub returns-in_err-prepared-2 : goal.returns-in_err-prepared-2
 unfolding product_answer
 returns-in_err-prepared-2 c =
     let read = one_direction _ _ c.prepare.ensures c.in_ok-prepared.was c.try_from.ensures c.in_ok-direction.was in
-    stops _ _ _ _ _ (both_read _ _ c.args.a c.args.b read c.with_number.ensures c.in_ok-with_number.was c.with_number-2.ensures ∙ c.in_err-prepared-2.was)
+    stops _ _ _ _ _ (both_read _ _ c.args.a c.args.b read c.with_number.ensures c.with_number-2.ensures ∙ c.in_err-prepared-2.was)
     c.from_residual-in_err-prepared-2.ensures.1
 
 pub marked_product-requires : goal.marked_product-requires
 marked_product-requires c =
     let read = one_direction _ _ c.prepare.ensures c.in_ok-prepared.was c.try_from.ensures c.in_ok-direction.was in
-    operands (passed _ _ _ (both_read _ _ c.args.a c.args.b read c.with_number.ensures c.in_ok-with_number.was c.with_number-2.ensures ∙ c.in_ok-prepared-2.was))
+    operands (passed _ _ _ (both_read _ _ c.args.a c.args.b read c.with_number.ensures c.with_number-2.ensures ∙ c.in_ok-prepared-2.was))
 
 pub returns : goal.returns
 unfolding product_answer
@@ -39,4 +33,4 @@ returns c =
     let read = one_direction _ _ c.prepare.ensures c.in_ok-prepared.was c.try_from.ensures c.in_ok-direction.was in
     c.marked_product.ensures
     ∙ operation_answers _ _ _ (λ (f : Format) (d : Direction). marked_product f d s.a s.b)
-    (both_read _ _ s.a s.b read c.with_number.ensures c.in_ok-with_number.was c.with_number-2.ensures ∙ c.in_ok-prepared-2.was) c.try_from.ensures c.in_ok-direction.was
+    (both_read _ _ s.a s.b read c.with_number.ensures c.with_number-2.ensures ∙ c.in_ok-prepared-2.was) c.try_from.ensures c.in_ok-direction.was

@@ -11,7 +11,7 @@ use Rattle.format.specs.declared.Refusal.{Refusal}
 use Rattle.format.specs.Given.{given}
 use Rattle.number.specs.declared.Number.{Number}
 use Rattle.number.proofs.Prelude.{Format, entered}
-use Rattle.number.proofs.CheckLaws.{passed, two_members, operands, goes_on, stops, number_stands, number_goes, both_read, direction_stands, direction_fails, direction_goes, directed_passed, directed_failed}
+use Rattle.number.proofs.CheckLaws.{passed, two_members, operands, goes_on, stops, number_stands, both_read, direction_stands, direction_fails, direction_goes, directed_passed, directed_failed}
 use Rattle.fast_two_sum.specs.Calls.{three_steps, fast_two_sum}
 use Rattle.fast_two_sum.proofs.Order.{order_answered}
 use Rattle.fast_two_sum.proofs.sum.fast_two_sum.Goals as goal
@@ -53,24 +53,17 @@ returns-in_err-first c =
     let three = direction_fails _ _ _ (sym two) (sym c.try_from-2.ensures ∙ c.in_err-first.was) in
     stops _ _ _ _ _ (both_stand _ _ c.args.a c.args.b (sym three)) c.from_residual-in_err-first.ensures.1
 
-pub returns-in_err-with_number : goal.returns-in_err-with_number
-unfolding fast_two_sum
-returns-in_err-with_number c =
-    let three = three_read _ _ _ _ (sym c.enter_directed.ensures ∙ c.in_ok-prepared.was) (sym c.try_from.ensures ∙ c.in_ok-second.was) (sym c.try_from-2.ensures ∙ c.in_ok-first.was) in
-    let four = c.with_number.ensures ∙ number_goes _ _ _ _ three in
-    stops _ _ _ _ _ (sym (number_stands _ _ _ c.args.a (sym four ∙ c.in_err-with_number.was))) c.from_residual-in_err-with_number.ensures.1
-
 pub returns-in_err-prepared-2 : goal.returns-in_err-prepared-2
 unfolding fast_two_sum
 returns-in_err-prepared-2 c =
     let three = three_read _ _ _ _ (sym c.enter_directed.ensures ∙ c.in_ok-prepared.was) (sym c.try_from.ensures ∙ c.in_ok-second.was) (sym c.try_from-2.ensures ∙ c.in_ok-first.was) in
-    let five = both_read _ _ c.args.a c.args.b three c.with_number.ensures c.in_ok-with_number.was c.with_number-2.ensures in
+    let five = both_read _ _ c.args.a c.args.b three c.with_number.ensures c.with_number-2.ensures in
     stops _ _ _ _ _ (five ∙ c.in_err-prepared-2.was) c.from_residual-in_err-prepared-2.ensures.1
 
 pub check_order-requires : goal.check_order-requires
 check_order-requires c =
     let three = three_read _ _ _ _ (sym c.enter_directed.ensures ∙ c.in_ok-prepared.was) (sym c.try_from.ensures ∙ c.in_ok-second.was) (sym c.try_from-2.ensures ∙ c.in_ok-first.was) in
-    let five = both_read _ _ c.args.a c.args.b three c.with_number.ensures c.in_ok-with_number.was c.with_number-2.ensures in
+    let five = both_read _ _ c.args.a c.args.b three c.with_number.ensures c.with_number-2.ensures in
     let p = passed _ _ _ (five ∙ c.in_ok-prepared-2.was) in
     let m = two_members p in
     (p.format, m.0, m.1)
@@ -79,7 +72,7 @@ pub returns-in_err-check_order : goal.returns-in_err-check_order
 unfolding fast_two_sum
 returns-in_err-check_order c =
     let three = three_read _ _ _ _ (sym c.enter_directed.ensures ∙ c.in_ok-prepared.was) (sym c.try_from.ensures ∙ c.in_ok-second.was) (sym c.try_from-2.ensures ∙ c.in_ok-first.was) in
-    let five = both_read _ _ c.args.a c.args.b three c.with_number.ensures c.in_ok-with_number.was c.with_number-2.ensures in
+    let five = both_read _ _ c.args.a c.args.b three c.with_number.ensures c.with_number-2.ensures in
     ap given (err_returned _ c.from_residual-in_err-check_order.ensures.1)
     ∙ order_answered _ _ _ _ c.check_order.ensures c.in_err-check_order.was
     ∙ goes_on _ _ _ _ (five ∙ c.in_ok-prepared-2.was)
@@ -87,7 +80,7 @@ returns-in_err-check_order c =
 pub three_steps-requires : goal.three_steps-requires
 three_steps-requires c =
     let three = three_read _ _ _ _ (sym c.enter_directed.ensures ∙ c.in_ok-prepared.was) (sym c.try_from.ensures ∙ c.in_ok-second.was) (sym c.try_from-2.ensures ∙ c.in_ok-first.was) in
-    let five = both_read _ _ c.args.a c.args.b three c.with_number.ensures c.in_ok-with_number.was c.with_number-2.ensures in
+    let five = both_read _ _ c.args.a c.args.b three c.with_number.ensures c.with_number-2.ensures in
     operands (passed _ _ _ (five ∙ c.in_ok-prepared-2.was))
 
 pub returns : goal.returns
@@ -96,7 +89,7 @@ returns c =
     let h = sym c.enter_directed.ensures ∙ c.in_ok-prepared.was in
     let second = sym c.try_from.ensures ∙ c.in_ok-second.was in
     let first = sym c.try_from-2.ensures ∙ c.in_ok-first.was in
-    let all = both_read _ _ c.args.a c.args.b (three_read _ _ _ _ h second first) c.with_number.ensures c.in_ok-with_number.was c.with_number-2.ensures ∙ c.in_ok-prepared-2.was in
+    let all = both_read _ _ c.args.a c.args.b (three_read _ _ _ _ h second first) c.with_number.ensures c.with_number-2.ensures ∙ c.in_ok-prepared-2.was in
     c.three_steps.ensures
     ∙ same_steps _ _ (passed _ _ _ all).same (direction_taken _ first).1 (direction_taken _ second).1 (directed_passed _ _ _ h).1
     ∙ order_answered _ _ _ _ c.check_order.ensures c.in_ok-check_order.was
