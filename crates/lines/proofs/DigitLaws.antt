@@ -1,23 +1,15 @@
--- Every byte is tried: the digit that the library reads of it, and the letter of each digit.
-use Rattle.theory.proofs.Prelude.{ℕ, ◌<◌, ◌≤◌, Bool, cond, true, false, [], ◌∷◌, List, ltb, eqb, get_or, ◌≡◌, refl, arith, eqb-true, lt-ltb, le-ltb, ltb-true}
+-- Every byte is tried: the digit that is read of it, and the letter of each digit.
+use Rattle.theory.proofs.Prelude.{ℕ, ◌<◌, Bool, cond, true, false, [], ◌∷◌, List, eqb, get_or, ◌≡◌, refl, arith, eqb-true, ltb-true}
+use Rattle.theory.proofs.Lists.{at_number}
 use Rattle.std.proofs.lemmas.Bool.{agree_below_at}
 use Rattle.std.proofs.lemmas.Option.{cond_some}
-use Rattle.std.specs.Prelude.{Option, Some, None, SomeIff}
-use Rattle.std.specs.Char.{digit_value}
-use Rattle.theory.specs.Tests.{◌and◌}
-use Rattle.lines.specs.Digits.{digit_of, is_digit, digit_in, glyph}
+use Rattle.std.specs.Prelude.{Some, None}
+use Rattle.lines.specs.Digits.{digit_of, is_digit, digit_in, glyph, holds_digits}
 
-of_value : (d v : ℕ) (r : Option ℕ) → d ≡ cond (ltb v 16) v 16 → SomeIff r (v < 16) v → r ≡ cond (ltb d 16) (Some d) None
-of_value d v None e n = let h : 16 ≤ v = omega arith in rw (e, le-ltb v 16 h)
-of_value d v (Some x) e h = rw (e, lt-ltb v 16 h.0, lt-ltb v 16 h.0, h.1)
-
--- the library's digits below 16 are those of `digit_of`
-pub digit_read : (b : ℕ) (r : Option ℕ) → b < 256 → SomeIff r (digit_value b < 16) (digit_value b) → r ≡ digit_in b
-unfolding digit_of digit_in is_digit ◌and◌
-digit_read b r h e =
-    of_value (digit_of b) (digit_value b) r
-    (eqb-true _ _ (agree_below_at (λ b. eqb (digit_of b) (cond (ltb (digit_value b) 16) (digit_value b) 16)) (λ b. true) 256 b refl h))
-    e
+-- a table that passes the test has the value of each byte
+pub entry_is : (table : List ℕ) → holds_digits table ≡ true → (b : ℕ) → b < 256 → get_or table b 0 ≡ digit_of b
+unfolding holds_digits
+entry_is table h b l = eqb-true (get_or table b 0) (digit_of b) (at_number (λ (i : ℕ). eqb (get_or table i 0) (digit_of i)) 256 h b l)
 
 -- a byte that is read as a digit, and one that is not
 pub some_digit : (b : ℕ) {d : ℕ} → digit_in b ≡ Some d → (is_digit b ≡ true) × (digit_of b ≡ d)

@@ -1,6 +1,7 @@
 -- Hexadecimal digits as bytes of a text, which are those of ASCII.
-use Rattle.std.specs.Prelude.{ℕ, zero, suc, ◌+◌, ◌-◌, ◌/◌, ◌%◌, ◌^◌, Bool, cond, List, [], ◌∷◌, leb, ltb, Option, Some, None}
+use Rattle.std.specs.Prelude.{ℕ, zero, suc, ◌+◌, ◌-◌, ◌/◌, ◌%◌, ◌^◌, Bool, cond, List, [], ◌∷◌, leb, ltb, eqb, get_or, Option, Some, None}
 use Rattle.theory.specs.Tests.{◌and◌}
+use Rattle.theory.specs.Lists.{all, numbers}
 
 -- ---- read
 abbrev pub between : (low high : ℕ) → ℕ → Bool
@@ -16,6 +17,10 @@ is_digit b = ltb (digit_of b) 16
 -- the value of a byte that is a digit
 unfoldable pub digit_in : ℕ → Option ℕ
 digit_in b = cond (is_digit b) (Some (digit_of b)) None
+
+-- a table has this value at each byte
+unfoldable pub holds_digits : List ℕ → Bool
+holds_digits table = all (λ (n : ℕ). eqb (get_or table n 0) (digit_of n)) (numbers 0 256)
 
 -- ---- printed
 -- a digit, letters in lower case

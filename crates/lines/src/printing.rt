@@ -7,13 +7,11 @@ ghost use Rattle.binary32.specs.Places.{places_given};
 ghost use Rattle.lines.specs.Digits.{low_digits};
 ghost use Rattle.lines.specs.Printing.{Put, field_text, fields, spaced, pattern_text, text_of, line_feed};
 
+use crate::digits::LETTERS;
 use crate::reading::Line;
 use binary32::finite::is_finite;
 use binary32::places::{Places, places_of};
 use format::Refusal;
-
-// The sixteen digits, letters in lower case.
-const LETTERS: [u8; 16] = *b"0123456789abcdef";
 
 // The eight digits of a number, the highest first, letters in lower case.
 fn hexadecimal(n: u32) -> [u8; 8]

@@ -10,6 +10,10 @@ use Rattle.saved_lines.specs.Offsets.{falls, descends, equals, repeats}
 use Rattle.saved_lines.specs.Lines.{Checked}
 use Rattle.saved_lines.proofs.NearestLaws.{Rising, rises_strictly, rising_upto}
 
+-- no offset is above a later one
+abbrev pub Ascending : List ℕ → Type 0
+Ascending l = (j k : ℕ) → j ≤ k → k < length l → Upto (pattern_value (get_or l j 0)) (pattern_value (get_or l k 0))
+
 -- a test of each offset and the next that was told: none passes, or some pass does
 module _ (l : List ℕ) where
   told_neighbours : (test : ℤ → ℤ → Bool) (r : Bool) → IsAllAdjacentAnswer (λ v w t. t ≡ not (test (pattern_value v) (pattern_value w))) l r
@@ -36,5 +40,5 @@ module _ (l : List ℕ) where
     rising_strictly j k h m =
         make_lt (pattern_value (get_or l j 0)) (pattern_value (get_or l k 0)) (rw (← value_at l j, ← value_at l k) (offsets_rise j k h (omega (arith, values_length l))))
 
-    pub rising : (j k : ℕ) → j ≤ k → k < length l → Upto (pattern_value (get_or l j 0)) (pattern_value (get_or l k 0))
+    pub rising : Ascending l
     rising j k h m = rw (← value_at l j, ← value_at l k) (rising_upto (pattern_values l) offsets_rise j k h (omega (arith, values_length l)))

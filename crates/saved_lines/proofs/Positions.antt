@@ -10,7 +10,7 @@ use Rattle.saved_lines.specs.Searches.{at_least}
 use Rattle.saved_lines.specs.Lines.{Checked}
 use Rattle.saved_lines.proofs.DistanceLaws.{nearer_true, nearer_false}
 use Rattle.saved_lines.proofs.NearestLaws.{left_nearest, right_nearest}
-use Rattle.saved_lines.proofs.Offsets.{offsets_rise}
+use Rattle.saved_lines.proofs.Offsets.{offsets_rise, rising}
 use Rattle.saved_lines.proofs.Searches.{below_number, from_number, from_first, later_at_least}
 
 -- `next` is the first position whose offset is not below the query
@@ -19,7 +19,7 @@ module _ (l : List ℕ) (c : Checked l) (q : ℕ) {next : ℕ} (e : next ≡ fir
   below_query k h = rw (value_at l k) (below_number q (get_or l k 0) (first_before (at_least q) 0 l k (omega arith)))
 
   pub from_query : (k : ℕ) → next ≤ k → k < length (pattern_values l) → Upto (pattern_value q) (at (pattern_values l) k)
-  from_query k h m = rw (value_at l k) (from_number q (get_or l k 0) (from_first l c (later_at_least q) k (omega arith) (omega (arith, values_length l))))
+  from_query k h m = rw (value_at l k) (from_number q (get_or l k 0) (from_first l (rising l c) (later_at_least q) k (omega arith) (omega (arith, values_length l))))
 
   pub next_most : next ≤ length l
   next_most = omega (arith, first_most (at_least q) 0 l)

@@ -26,20 +26,16 @@ pub struct Outward<'a> {
 }
 
 impl<'a> Lines<'a> {
-    // The lines within reach stand side by side: from the first that reaches the query on, up to the first beyond it.
+    // The lines within reach stand side by side: those below the query from the first that reaches it on, and those from the query on up to
+    // the first beyond reach. A distance below zero leaves none of either.
     fn within(self, query: u32, distance: u32) -> Outward<'a>
         ensures lent { (result.lines.offsets.now ≡ self.entry.offsets.now) × (result.query ≡ query) }
         ensures found { Around self.entry.offsets.now query distance result.first result.left result.end × (result.right ≡ result.left) }
     {
         let offsets = self.offsets;
-        let first = offsets.partition_point(|v| !sums_upto(query, 0, *v, distance));
-        let end = offsets.partition_point(|v| sums_upto(*v, 0, query, distance));
         let split = offsets.partition_point(|v| is_below(*v, query));
-        let (first, end) = if first < end {
-            (first, end)
-        } else {
-            (split, split)
-        };
+        let first = offsets[..split].partition_point(|v| !sums_upto(query, 0, *v, distance));
+        let end = split + offsets[split..].partition_point(|v| sums_upto(*v, 0, query, distance));
         Outward {
             lines: self,
             query,

@@ -2,7 +2,7 @@
 use Rattle.theory.proofs.Prelude.{◌-◌, ◌≡◌, ◌∙◌, sym, arith, rules}
 use Rattle.theory.specs.Lists.{first_where}
 use Rattle.saved_lines.specs.Searches.{at_least}
-use Rattle.saved_lines.proofs.Offsets.{rising_strictly}
+use Rattle.saved_lines.proofs.Offsets.{rising, rising_strictly}
 use Rattle.saved_lines.proofs.Positions.{found_first, found_right, found_left}
 use Rattle.saved_lines.proofs.Searches.{searched, later_at_least, told_at_least}
 use Rattle.saved_lines.proofs.checks.Lines.nearest.Goals as goal
@@ -11,7 +11,7 @@ use Rattle.saved_lines.proofs.checks.Lines.nearest.Goals.{After-partition_point-
 next_is : (c : After-partition_point-next) → c.partition_point-next.result ≡ first_where (at_least c.args.query) c.args.self.now.offsets.now
 next_is c =
     let p = c.partition_point-next.ensures in
-    searched c.args.self.now.offsets.now c.args.self.now.checked (later_at_least c.args.query) p.bound p.partitioned (λ a r f k. (told_at_least _ _ (search rules), search rules))
+    searched c.args.self.now.offsets.now (rising c.args.self.now.offsets.now c.args.self.now.checked) (later_at_least c.args.query) p.bound p.partitioned (λ a r f k. (told_at_least _ _ (search rules), search rules))
 
 pub is_greater_nearer-requires : goal.is_greater_nearer-requires
 is_greater_nearer-requires c =
