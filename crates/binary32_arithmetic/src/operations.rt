@@ -23,7 +23,9 @@ use theory::Direction;
 fn read_call(direction: u32, a: u32, b: u32) -> Result<(Direction, Number, Number), Refusal>
     ensures { result ≡ call_read direction a b }
 {
-    let direction = Direction::try_from(direction)?;
+    let Ok(direction) = Direction::try_from(direction) else {
+        return Err(Refusal::NoSuchDirection);
+    };
     if !are_finite(a, b) {
         return Err(Refusal::NotFinite);
     }

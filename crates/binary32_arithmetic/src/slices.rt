@@ -120,7 +120,9 @@ pub fn sum_slices(
     if a.len() != out.len() {
         return Err(ListRefusal::Whole(Refusal::LengthsDiffer));
     }
-    let direction = Direction::try_from(direction).map_err(Refusal::from)?;
+    let Ok(direction) = Direction::try_from(direction) else {
+        return Err(ListRefusal::Whole(Refusal::NoSuchDirection));
+    };
     first_refused(direction, a, b)?;
     Ok(write_sums(direction, a, b, out))
 }

@@ -30,8 +30,8 @@ pub extern "C" fn zurkeb_lines_within(
     ensures written { out.new ≡ within_written (lines_within offsets.now query distance (length out.old))
         (lines_in_order offsets.now query distance) out.old }
 {
-    let answer = lines_within(offsets, query, distance, out);
-    count_out(answer)
+    let found = lines_within(offsets, query, distance, out);
+    count_out(found)
 }
 
 // The positions of the lines nearest to the queries, which ascend, into out, and the number of lines looked at. Refuses 11; 12, 9 (with

@@ -5,7 +5,6 @@ use Rattle.theory.specs.Tests.{◌and◌}
 use Rattle.theory.specs.declared.Direction.{Direction}
 use Rattle.theory.specs.Directions.{direction_read}
 use Rattle.theory.proofs.Directions.{direction_taken, no_direction_taken}
-use Rattle.theory.proofs.Results.{err_returned}
 use Rattle.theory.proofs.Tests.{and_left, and_right, unless_passed, unless_failed}
 use Rattle.format.specs.declared.Refusal.TheVariants.{NotFinite}
 use Rattle.number.specs.declared.Number.{Number}
@@ -22,18 +21,17 @@ module _ (d a b : ℕ) {t : Direction} (h : direction_read d ≡ Ok t) where
   unfolding call_read
   made k f g = let e = (direction_taken d h).1 in rw (e, f, g) (sym (unless_passed _ _ (direction_taken d h).0 ∙ unless_passed _ _ k))
 
-pub returns-in_err-direction : goal.returns-in_err-direction
+pub returns-in_default : goal.returns-in_default
 unfolding call_read
-returns-in_err-direction c =
-    err_returned _ c.from_residual.ensures.1 ∙ sym (unless_failed _ _ (no_direction_taken _ (sym c.try_from.ensures ∙ c.in_err-direction.was)))
+returns-in_default c = sym (unless_failed _ _ (no_direction_taken _ (sym c.try_from.ensures ∙ c.in_default.is)))
 
 pub returns-then-not-are_finite : goal.returns-then-not-are_finite
 returns-then-not-are_finite c =
-    not_finite _ _ _ (sym c.try_from.ensures ∙ c.in_ok-direction.was) (sym c.are_finite.ensures ∙ c.if-not-are_finite.true)
+    not_finite _ _ _ (sym c.try_from.ensures ∙ c.in-Ok.is) (sym c.are_finite.ensures ∙ c.if-not-are_finite.true)
 
 pub returns : goal.returns
 returns c =
-    made _ _ _ (sym c.try_from.ensures ∙ c.in_ok-direction.was) (sym c.are_finite.ensures ∙ c.if-not-are_finite.false) c.read_finite.ensures c.read_finite-2.ensures
+    made _ _ _ (sym c.try_from.ensures ∙ c.in-Ok.is) (sym c.are_finite.ensures ∙ c.if-not-are_finite.false) c.read_finite.ensures c.read_finite-2.ensures
 
 pub read_finite-requires : goal.read_finite-requires
 read_finite-requires c = and_left _ _ (sym c.are_finite.ensures ∙ c.if-not-are_finite.false)

@@ -1,15 +1,11 @@
 -- `binary32_arithmetic::slices::sum_slices` meets its contract.
-use Rattle.std.specs.Prelude.{Result, Ok, Err, IsErrAnd, MatchResult}
+use Rattle.std.specs.Prelude.{Result, Err}
 use Rattle.theory.proofs.Prelude.{ℕ, true, false, List, ◌∙◌, ap, ◌≡◌, sym, refl, eqb, length, ne_eqb, eq-eqb}
 use Rattle.theory.specs.Tests.{◌and◌}
 use Rattle.theory.specs.declared.Direction.{Direction}
-use Rattle.theory.specs.declared.NoDirection.{NoDirection}
-use Rattle.theory.specs.Directions.{direction_read}
 use Rattle.theory.proofs.Directions.{direction_taken, no_direction_taken}
 use Rattle.theory.proofs.Results.{err_returned}
 use Rattle.theory.proofs.Tests.{and_made, unless_passed, unless_failed}
-use Rattle.format.specs.declared.Refusal.{Refusal}
-use Rattle.format.specs.declared.Refusal.TheVariants.{NoSuchDirection}
 use Rattle.format.specs.declared.ListRefusal.{ListRefusal}
 use Rattle.format.specs.declared.ListRefusal.TheVariants.{Whole, Entry}
 use Rattle.format.specs.Given.{Given, gives, refused, given_at, ◌then◌}
@@ -41,18 +37,6 @@ module _ (d : ℕ) (a b out : List ℕ) where
     checked h k =
         ap (λ (t : Direction). first_refused (entries t a b) then (λ done. gives (inexact_entries t a b))) k ∙ sym (unless_passed _ _ (and_made (eq-eqb _ _ e) (eq-eqb _ _ g)) ∙ unless_passed _ _ h)
 
--- ---- the direction that was read, or refusal 2
-module _ (d : ℕ) {m : Result Direction Refusal} where
-  taken : (t : Result Direction NoDirection) {k : Direction} → t ≡ direction_read d → MatchResult t (λ x. m ≡ Ok x) (λ e. IsErrAnd m (λ r. r ≡ NoSuchDirection)) → m ≡ Ok k
-      → (is_direction d ≡ true) × (k ≡ direction d)
-  taken (Ok x) e h w = let same : x ≡ _ = cc in rw same at (direction_taken d (sym e))
-  taken (Err x) e h w = let same : m ≡ Err NoSuchDirection = err_returned m h in cc
-
-  not_taken : (t : Result Direction NoDirection) {why : Refusal} → t ≡ direction_read d → MatchResult t (λ x. m ≡ Ok x) (λ e. IsErrAnd m (λ r. r ≡ NoSuchDirection)) → m ≡ Err why
-      → (is_direction d ≡ false) × (why ≡ NoSuchDirection)
-  not_taken (Ok x) e h w = cc
-  not_taken (Err x) e h w = let same : m ≡ Err NoSuchDirection = err_returned m h in (no_direction_taken d (sym e), cc)
-
 -- ---- a refusal is handed on, and leaves what was lent
 refused_leaves : {r : Result ℕ ListRefusal} {e : ListRefusal} (new old : List ℕ) → r ≡ Err e → old ≡ slices_written (given_at r) new old
 refused_leaves {e = Whole why} new old h = rw h
@@ -76,21 +60,18 @@ returns-then-a-out c =
       written = refl;
     }
 
-pub returns-in_err-direction : goal.returns-in_err-direction
-returns-in_err-direction c =
-    let s = c.args in
-    let not = not_taken s.direction c.try_from.result c.try_from.ensures c.map_err.ensures.cases c.in_err-direction.was in
-    let r = err_returned _ c.from_residual.ensures.1 in
-    record {
-      answer = ap given_at (rw not.1 at r) ∙ no_direction s.direction s.a.now s.b.now s.out.now c.if-a-b.false c.if-a-out.false not.0;
-      written = refused_leaves _ _ r;
+pub returns-in_default : goal.returns-in_default
+returns-in_default c =
+    let s = c.args in record {
+      answer = no_direction s.direction s.a.now s.b.now s.out.now c.if-a-b.false c.if-a-out.false (no_direction_taken s.direction (sym c.try_from.ensures ∙ c.in_default.is));
+      written = refl;
     }
 
 pub returns-in_err-first_refused : goal.returns-in_err-first_refused
 returns-in_err-first_refused c =
     let s = c.args in
-    let is = taken s.direction c.try_from.result c.try_from.ensures c.map_err.ensures.cases c.in_ok-direction.was in
-    let r = err_returned _ c.from_residual-in_err-first_refused.ensures.1 in
+    let is = direction_taken s.direction (sym c.try_from.ensures ∙ c.in-Ok.is) in
+    let r = err_returned _ c.from_residual.ensures.1 in
     record {
       answer = handed_on _ r c.in_err-first_refused.was c.first_refused.ensures ∙ checked s.direction s.a.now s.b.now s.out.now c.if-a-b.false c.if-a-out.false is.0 is.1;
       written = refused_leaves _ _ r;
@@ -99,11 +80,11 @@ returns-in_err-first_refused c =
 pub returns : goal.returns
 returns c =
     let s = c.args in
-    let is = taken s.direction c.try_from.result c.try_from.ensures c.map_err.ensures.cases c.in_ok-direction.was in
+    let is = direction_taken s.direction (sym c.try_from.ensures ∙ c.in-Ok.is) in
     record {
       answer =
           ap gives c.write_sums.ensures.count
-          ∙ ap (λ (g : Given Unit). g then (λ done. gives (inexact_entries c.in_ok-direction.direction s.a.now s.b.now))) (sym (ap given_at c.in_ok-first_refused.was) ∙ c.first_refused.ensures)
+          ∙ ap (λ (g : Given Unit). g then (λ done. gives (inexact_entries c.in-Ok.direction s.a.now s.b.now))) (sym (ap given_at c.in_ok-first_refused.was) ∙ c.first_refused.ensures)
           ∙ checked s.direction s.a.now s.b.now s.out.now c.if-a-b.false c.if-a-out.false is.0 is.1;
       written = c.write_sums.ensures.written ∙ ap (λ (d : Direction). sums d s.a.now s.b.now) is.1;
     }

@@ -5,4 +5,4 @@ use Rattle.c_api.proofs.lines.zurkeb_lines_within.Goals as goal
 
 pub count_out-requires : goal.count_out-requires
 count_out-requires c number index e =
-    omega (arith, lines_within_below c.args.offsets.now c.args.query c.args.distance _ number index (sym c.lines_within-answer.ensures.answer ∙ e))
+    omega (arith, lines_within_below c.args.offsets.now c.args.query c.args.distance _ number index (sym c.lines_within-found.ensures.answer ∙ e))
