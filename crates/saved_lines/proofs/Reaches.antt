@@ -2,8 +2,9 @@
 use Rattle.theory.proofs.Prelude.{ℕ, ◌≤◌, ◌<◌, ◌+◌, ◌-◌, true, false, Bool, not, List, ◌∙◌, ap, ◌≡◌, sym, refl, dec_le, arith, leb, ℤ, pos, ◌+ℤ◌, length, get_or, le_z, le-leb, lt-leb, not-true, not-false}
 use Rattle.theory.specs.Lists.{first_where}
 use Rattle.theory.specs.Tests.{◌and◌, unless}
+use Rattle.theory.proofs.Lists.{first_before, first_most}
 use Rattle.theory.proofs.Tests.{never, unless_passed, unless_failed}
-use Rattle.theory.proofs.Integers.{sum_parts}
+use Rattle.theory.proofs.Integers.{above, below, sum_parts}
 use Rattle.format.specs.Given.{Given, gives, refused, ◌then◌, given_at}
 use Rattle.format.proofs.Signed.{Upto, Under, apart, le_true, le_false, make_le}
 use Rattle.binary32.specs.Patterns.{finite, pattern_value, pattern_values}
@@ -18,7 +19,8 @@ use Rattle.saved_lines.specs.Lines.{passed, lines_checked, Checked, lines_found,
 use Rattle.saved_lines.specs.Walks.{Around}
 use Rattle.saved_lines.proofs.Checking.{refused_by, passed_by}
 use Rattle.saved_lines.proofs.DistanceLaws.{distance_is}
-use Rattle.saved_lines.proofs.Searches.{Parted}
+use Rattle.saved_lines.proofs.Offsets.{rising}
+use Rattle.saved_lines.proofs.Searches.{Parted, from_first, later_reaching, later_beyond}
 use Rattle.saved_lines.proofs.Positions.{next_most, below_query, from_query}
 use Rattle.saved_lines.proofs.PositionLists.{range_length, positions_range}
 
@@ -113,6 +115,110 @@ module _ (l : List ℕ) (c : Checked l) (q d : ℕ) {split first rest : ℕ} (s 
             ∙ ap (λ (i : ℕ). range i (split + rest - first)) (omega arith));
         walk = record { low = f.most; below = omega arith; above = omega arith; high = omega arith; most = omega (arith, g.most, next_most l c q s) };
       }
+
+-- ---- the same with each end sought in the whole list: the lines within reach stand between them, or there are none
+module _ (l : List ℕ) (c : Checked l) (q d : ℕ) {first end : ℕ} (e : first ≡ first_where (reaching q d) l)
+    (g : end ≡ first_where (beyond q d) l) where
+  abbrev value : ℕ → ℤ
+  value k = pattern_value (get_or l k 0)
+
+  falls_short : (k : ℕ) → k < first → reaching q d (get_or l k 0) ≡ false
+  falls_short k h = first_before (reaching q d) 0 l k (omega arith)
+
+  reaches : (k : ℕ) → first ≤ k → k < length l → reaching q d (get_or l k 0) ≡ true
+  reaches k h m = from_first l (rising l c) (later_reaching q d) k (omega arith) m
+
+  not_beyond : (k : ℕ) → k < end → beyond q d (get_or l k 0) ≡ false
+  not_beyond k h = first_before (beyond q d) 0 l k (omega arith)
+
+  is_beyond : (k : ℕ) → end ≤ k → k < length l → beyond q d (get_or l k 0) ≡ true
+  is_beyond k h m = from_first l (rising l c) (later_beyond q d) k (omega arith) m
+
+  -- these as orders
+  short : (k : ℕ) → k < first → Under (value k +ℤ pattern_value d) (pattern_value q)
+  short k h = le_false (pattern_value q) (value k +ℤ pattern_value d) (sym (reached_at q d (get_or l k 0)) ∙ falls_short k h)
+
+  reached : (k : ℕ) → first ≤ k → k < length l → Upto (pattern_value q) (value k +ℤ pattern_value d)
+  reached k h m = le_true (pattern_value q) (value k +ℤ pattern_value d) (sym (reached_at q d (get_or l k 0)) ∙ reaches k h m)
+
+  near : (k : ℕ) → k < end → Upto (value k) (pattern_value q +ℤ pattern_value d)
+  near k h = le_true (value k) (pattern_value q +ℤ pattern_value d) (not-false _ (sym (beyond_at q d (get_or l k 0)) ∙ not_beyond k h))
+
+  far : (k : ℕ) → end ≤ k → k < length l → Under (pattern_value q +ℤ pattern_value d) (value k)
+  far k h m = le_false (value k) (pattern_value q +ℤ pattern_value d) (not-true _ (sym (beyond_at q d (get_or l k 0)) ∙ is_beyond k h m))
+
+  end_most : end ≤ length l
+  end_most = omega (arith, first_most (beyond q d) 0 l)
+
+  -- what is within reach has a distance of at least zero
+  not_below_zero : first < end → below (pattern_value d) ≤ above (pattern_value d)
+  not_below_zero h =
+      omega (
+        arith,
+        reached first (omega arith) (omega (arith, end_most)),
+        near first h,
+        sum_parts (value first) (pattern_value d),
+        sum_parts (pattern_value q) (pattern_value d),
+      )
+
+  module _ {split : ℕ} (s : split ≡ first_where (at_least q) l) where
+    lower : (k : ℕ) → k < split → Under (value k) (pattern_value q)
+    lower k h = rw (value_at l k) at (below_query l c q s k h)
+
+    upper : (k : ℕ) → split ≤ k → k < length l → Upto (pattern_value q) (value k)
+    upper k h m = rw (value_at l k) at (from_query l c q s k h (omega (arith, values_length l)))
+
+    -- where the ends meet or cross, no line below the query reaches it, and each from it on is beyond
+    short_below : end ≤ first → (k : ℕ) → k < split → reaching q d (get_or l k 0) ≡ false
+    short_below h k m = by (dec_le first k)
+      where
+        by : Dec (first ≤ k) → reaching q d (get_or l k 0) ≡ false
+        by (no a) = falls_short k (omega arith)
+        by (yes a) =
+            let b : k < length l = omega (arith, next_most l c q s) in
+            absurd (omega (arith, reached k a b, far k (omega arith) b, lower k m, sum_parts (value k) (pattern_value d), sum_parts (pattern_value q) (pattern_value d)))
+
+    beyond_above : end ≤ first → (k : ℕ) → split ≤ k → k < length l → beyond q d (get_or l k 0) ≡ true
+    beyond_above h k m b = by (dec_le end k)
+      where
+        by : Dec (end ≤ k) → beyond q d (get_or l k 0) ≡ true
+        by (yes a) = is_beyond k a b
+        by (no a) =
+            absurd (omega (arith, short k (omega arith), near k (omega arith), upper k m b, sum_parts (value k) (pattern_value d), sum_parts (pattern_value q) (pattern_value d)))
+
+    pub around_none : end ≤ first → Around l q d split split split
+    around_none h =
+        let z : split + 0 ≡ split = omega arith in
+        rw z at (around l c q d {first = split} {rest = 0} s
+        (record { most = omega arith; fails = λ k a b. short_below h k (omega arith); passes = λ k a b. absurd (omega arith) })
+        (record { most = omega arith; fails = λ k a b. absurd (omega arith); passes = λ k a b. beyond_above h k (omega arith) (omega (arith, next_most l c q s)) }))
+
+    starts : first < end → first ≤ split
+    starts h = by (dec_le first split)
+      where
+        by : Dec (first ≤ split) → first ≤ split
+        by (yes a) = a
+        by (no a) =
+            absurd (omega (arith, not_below_zero h, short split (omega arith), upper split (omega arith) (omega (arith, end_most)), sum_parts (value split) (pattern_value d)))
+
+    ends : first < end → split ≤ end
+    ends h = by (dec_le split end)
+      where
+        by : Dec (split ≤ end) → split ≤ end
+        by (yes a) = a
+        by (no a) =
+            absurd (omega (arith, not_below_zero h, far end (omega arith) (omega (arith, next_most l c q s)), lower end (omega arith), sum_parts (pattern_value q) (pattern_value d)))
+
+    pub around_some : first < end → Around l q d first split end
+    around_some h =
+        let z : split + (end - split) ≡ end = omega (arith, ends h) in
+        rw z at (around l c q d {rest = end - split} s
+        (record { most = starts h; fails = λ k a b. falls_short k (omega arith); passes = λ k a b. reaches k (omega arith) (omega (arith, next_most l c q s)) })
+        (record {
+          most = omega (arith, end_most);
+          fails = λ k a b. not_beyond k (omega (arith, ends h));
+          passes = λ k a b. is_beyond k (omega (arith, ends h)) (omega (arith, next_most l c q s));
+        }))
 
 -- ---- the answers of lines_within
 module _ (l : List ℕ) (q d room : ℕ) where
