@@ -1,7 +1,8 @@
 -- The lines within reach stand side by side, from the first that reaches the query up to the first beyond it.
-use Rattle.theory.proofs.Prelude.{ℕ, ◌≤◌, ◌<◌, ◌+◌, ◌-◌, true, false, Bool, not, List, ◌∙◌, ap, ◌≡◌, sym, refl, dec_le, arith, leb, ℤ, pos, ◌+ℤ◌, length, get_or, le_z, le-leb, lt-leb, not-true, not-false}
+use Rattle.theory.proofs.Prelude.{ℕ, ◌≤◌, ◌<◌, ◌+◌, ◌-◌, true, false, Bool, not, List, ◌∙◌, ap, ◌≡◌, sym, refl, dec_le, arith, leb, ℤ, pos, ◌+ℤ◌, length, get_or, le_z, le-leb, lt-leb, not-true, not-false, ⊎_elim, inl, inr, ◌⊎◌}
 use Rattle.theory.specs.Lists.{first_where}
 use Rattle.theory.specs.Tests.{◌and◌, unless}
+use Rattle.std.proofs.Math.Nat.{lt_of_not-le}
 use Rattle.theory.proofs.Lists.{first_before, first_most}
 use Rattle.theory.proofs.Tests.{never, unless_passed, unless_failed}
 use Rattle.theory.proofs.Integers.{above, below, sum_parts}
@@ -69,6 +70,17 @@ beyond_at : (q d n : ℕ) → beyond q d n ≡ not (le_z (pattern_value n) (patt
 unfolding beyond
 beyond_at q d n = refl
 
+at_most : {a b : ℕ} → ¬ (b < a) → a ≤ b
+at_most h = omega (arith, lt_of_not-le h)
+
+-- the lines below the query, and those from it on
+module _ (l : List ℕ) (c : Checked l) (q : ℕ) {split : ℕ} (s : split ≡ first_where (at_least q) l) where
+  lower : (k : ℕ) → k < split → Under (pattern_value (get_or l k 0)) (pattern_value q)
+  lower k h = rw (value_at l k) at (below_query l c q s k h)
+
+  upper : (k : ℕ) → split ≤ k → k < length l → Upto (pattern_value q) (pattern_value (get_or l k 0))
+  upper k h m = rw (value_at l k) at (from_query l c q s k h (omega (arith, values_length l)))
+
 -- `first` parts the lines below the query, `rest` those from it on
 module _ (l : List ℕ) (c : Checked l) (q d : ℕ) {split first rest : ℕ} (s : split ≡ first_where (at_least q) l)
     (f : Parted l (reaching q d) 0 first split) (g : Parted l (beyond q d) split rest (length l - split)) where
@@ -90,14 +102,14 @@ module _ (l : List ℕ) (c : Checked l) (q d : ℕ) {split first rest : ℕ} (s 
   passes_below : (k : ℕ) → first ≤ k → k < split → within (at (pattern_values l) k) ≡ true
   passes_below k h m =
       ap within (value_at l k)
-      ∙ within_below (pattern_value q) (pattern_value d) (pattern_value (get_or l k 0)) (rw (value_at l k) at (below_query l c q s k m))
+      ∙ within_below (pattern_value q) (pattern_value d) (pattern_value (get_or l k 0)) (lower l c q s k m)
       (sym (reached_at q d (get_or l k 0)) ∙ f.passes k (omega arith) (omega arith))
 
   passes_above : (k : ℕ) → split ≤ k → k < split + rest → within (at (pattern_values l) k) ≡ true
   passes_above k h m =
       ap within (value_at l k)
       ∙ within_above (pattern_value q) (pattern_value d) (pattern_value (get_or l k 0))
-      (rw (value_at l k) at (from_query l c q s k h (omega (arith, g.most, next_most l c q s, values_length l))))
+      (upper l c q s k h (omega (arith, g.most, next_most l c q s)))
       (not-false _ (sym (beyond_at q d (get_or l k 0)) ∙ g.fails k h m))
 
   passes_between : (k : ℕ) → first ≤ k → k < split + rest → within (at (pattern_values l) k) ≡ true
@@ -147,78 +159,50 @@ module _ (l : List ℕ) (c : Checked l) (q d : ℕ) {first end : ℕ} (e : first
   far : (k : ℕ) → end ≤ k → k < length l → Under (pattern_value q +ℤ pattern_value d) (value k)
   far k h m = le_false (value k) (pattern_value q +ℤ pattern_value d) (not-true _ (sym (beyond_at q d (get_or l k 0)) ∙ is_beyond k h m))
 
-  end_most : end ≤ length l
-  end_most = omega (arith, first_most (beyond q d) 0 l)
-
-  -- what is within reach has a distance of at least zero
-  not_below_zero : first < end → below (pattern_value d) ≤ above (pattern_value d)
-  not_below_zero h =
-      omega (
-        arith,
-        reached first (omega arith) (omega (arith, end_most)),
-        near first h,
-        sum_parts (value first) (pattern_value d),
-        sum_parts (pattern_value q) (pattern_value d),
-      )
-
   module _ {split : ℕ} (s : split ≡ first_where (at_least q) l) where
-    lower : (k : ℕ) → k < split → Under (value k) (pattern_value q)
-    lower k h = rw (value_at l k) at (below_query l c q s k h)
+    -- a distance of at least zero has the query between the two ends; with one below zero they meet or cross there
+    at_least_zero : below (pattern_value d) ≤ above (pattern_value d) → (first ≤ split) × (split ≤ end)
+    at_least_zero h = (
+      at_most (λ a. omega (arith, h, short split a, upper l c q s split (omega arith) (omega (arith, first_most (reaching q d) 0 l)), sum_parts (value split) (pattern_value d))),
+      at_most (λ a. omega (arith, h, far end (omega arith) (omega (arith, next_most l c q s)), lower l c q s end a, sum_parts (pattern_value q) (pattern_value d))),
+    )
 
-    upper : (k : ℕ) → split ≤ k → k < length l → Upto (pattern_value q) (value k)
-    upper k h m = rw (value_at l k) at (from_query l c q s k h (omega (arith, values_length l)))
+    below_zero : above (pattern_value d) < below (pattern_value d) → (end ≤ split) × (split ≤ first)
+    below_zero h = (
+      at_most (λ a. omega (arith, h, near split a, upper l c q s split (omega arith) (omega (arith, first_most (beyond q d) 0 l)), sum_parts (pattern_value q) (pattern_value d))),
+      at_most (λ a. omega (arith, h, reached first (omega arith) (omega (arith, next_most l c q s)), lower l c q s first a, sum_parts (value first) (pattern_value d))),
+    )
 
-    -- where the ends meet or cross, no line below the query reaches it, and each from it on is beyond
-    short_below : end ≤ first → (k : ℕ) → k < split → reaching q d (get_or l k 0) ≡ false
-    short_below h k m = by (dec_le first k)
+    sides : ((first ≤ split) × (split ≤ end)) ⊎ ((end ≤ split) × (split ≤ first))
+    sides = by (dec_le (below (pattern_value d)) (above (pattern_value d)))
       where
-        by : Dec (first ≤ k) → reaching q d (get_or l k 0) ≡ false
-        by (no a) = falls_short k (omega arith)
-        by (yes a) =
-            let b : k < length l = omega (arith, next_most l c q s) in
-            absurd (omega (arith, reached k a b, far k (omega arith) b, lower k m, sum_parts (value k) (pattern_value d), sum_parts (pattern_value q) (pattern_value d)))
-
-    beyond_above : end ≤ first → (k : ℕ) → split ≤ k → k < length l → beyond q d (get_or l k 0) ≡ true
-    beyond_above h k m b = by (dec_le end k)
-      where
-        by : Dec (end ≤ k) → beyond q d (get_or l k 0) ≡ true
-        by (yes a) = is_beyond k a b
-        by (no a) =
-            absurd (omega (arith, short k (omega arith), near k (omega arith), upper k m b, sum_parts (value k) (pattern_value d), sum_parts (pattern_value q) (pattern_value d)))
+        by : Dec (below (pattern_value d) ≤ above (pattern_value d)) → ((first ≤ split) × (split ≤ end)) ⊎ ((end ≤ split) × (split ≤ first))
+        by (yes a) = inl (at_least_zero a)
+        by (no a) = inr (below_zero (omega arith))
 
     pub around_none : end ≤ first → Around l q d split split split
     around_none h =
         let z : split + 0 ≡ split = omega arith in
         rw z at (around l c q d {first = split} {rest = 0} s
-        (record { most = omega arith; fails = λ k a b. short_below h k (omega arith); passes = λ k a b. absurd (omega arith) })
-        (record { most = omega arith; fails = λ k a b. absurd (omega arith); passes = λ k a b. beyond_above h k (omega arith) (omega (arith, next_most l c q s)) }))
-
-    starts : first < end → first ≤ split
-    starts h = by (dec_le first split)
+        (record { most = omega arith; fails = λ k a b. falls_short k (omega (arith, crossed.1)); passes = λ k a b. absurd (omega arith) })
+        (record { most = omega arith; fails = λ k a b. absurd (omega arith); passes = λ k a b. is_beyond k (omega (arith, crossed.0)) (omega (arith, next_most l c q s)) }))
       where
-        by : Dec (first ≤ split) → first ≤ split
-        by (yes a) = a
-        by (no a) =
-            absurd (omega (arith, not_below_zero h, short split (omega arith), upper split (omega arith) (omega (arith, end_most)), sum_parts (value split) (pattern_value d)))
-
-    ends : first < end → split ≤ end
-    ends h = by (dec_le split end)
-      where
-        by : Dec (split ≤ end) → split ≤ end
-        by (yes a) = a
-        by (no a) =
-            absurd (omega (arith, not_below_zero h, far end (omega arith) (omega (arith, next_most l c q s)), lower end (omega arith), sum_parts (pattern_value q) (pattern_value d)))
+        crossed : (end ≤ split) × (split ≤ first)
+        crossed = ⊎_elim (λ p. (omega (arith, p.0, p.1), omega (arith, p.0, p.1))) (λ p. p) sides
 
     pub around_some : first < end → Around l q d first split end
     around_some h =
-        let z : split + (end - split) ≡ end = omega (arith, ends h) in
+        let z : split + (end - split) ≡ end = omega (arith, between.1) in
         rw z at (around l c q d {rest = end - split} s
-        (record { most = starts h; fails = λ k a b. falls_short k (omega arith); passes = λ k a b. reaches k (omega arith) (omega (arith, next_most l c q s)) })
+        (record { most = between.0; fails = λ k a b. falls_short k (omega arith); passes = λ k a b. reaches k (omega arith) (omega (arith, next_most l c q s)) })
         (record {
-          most = omega (arith, end_most);
-          fails = λ k a b. not_beyond k (omega (arith, ends h));
-          passes = λ k a b. is_beyond k (omega (arith, ends h)) (omega (arith, next_most l c q s));
+          most = omega (arith, first_most (beyond q d) 0 l);
+          fails = λ k a b. not_beyond k (omega (arith, between.1));
+          passes = λ k a b. is_beyond k (omega (arith, between.1)) (omega (arith, next_most l c q s));
         }))
+      where
+        between : (first ≤ split) × (split ≤ end)
+        between = ⊎_elim (λ p. p) (λ p. absurd (omega (arith, p.0, p.1))) sides
 
 -- ---- the answers of lines_within
 module _ (l : List ℕ) (q d room : ℕ) where
